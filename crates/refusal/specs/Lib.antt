@@ -1,0 +1,3 @@
+-- Refusals, their numbers, and the outcome of an operation.
+pub mod Refusal
+pub mod Outcome

@@ -1,0 +1,20 @@
+-- Refusals by their numbers in document 01.
+--   numberOf r   the number of the refusal r
+use Prim.Native.Nat.{ℕ}
+use Rattle.refusal.specs.declared.Refusal.{Refusal}
+use Rattle.refusal.specs.declared.Refusal.the-variants.{Length, FileEnds, NumberForm, Taps, Range, EmptySet, Surplus, Bytes, ZeroPolynomial, Degree, Side, RanksDiffer}
+
+-- the number that document 01 gives a refusal
+abbrev pub numberOf : Refusal → ℕ
+numberOf Length = 1
+numberOf FileEnds = 2
+numberOf NumberForm = 3
+numberOf Taps = 4
+numberOf Range = 5
+numberOf EmptySet = 6
+numberOf Surplus = 7
+numberOf Bytes = 8
+numberOf ZeroPolynomial = 9
+numberOf Degree = 10
+numberOf Side = 11
+numberOf RanksDiffer = 12
