@@ -1,0 +1,88 @@
+-- The columns of a graded order.
+--   member-columns     the columns are the exponents of n taps up to the degree
+--   columns-distinct   each stands once
+--   columns-prefix     the columns of a degree are the first columns of a higher degree
+use mathlib.Core.Path.{_≡_, refl, sym, ap, _∙_}
+use mathlib.Core.Logic.{_↔_}
+use mathlib.Core.Bool.{Bool, true, false}
+use mathlib.Core.List.{List, [], _∷_, List·Memᴰ, List·Memᴰ·head, List·Memᴰ·tail}
+use Prim.Native.Nat.{ℕ, suc, _≤_, _<_}
+use native.Mathlib.Omega.{arith}
+use lib.Dec.{leb}
+use lib.ListN.{length, getD, take}
+use lib.Pow.{pow-mono}
+use borrow.Author.Tests.{ltb-true, leb-true, leb-false, lt-ltb, le-leb, lt-leb}
+use Rattle.cube.specs.Numbers.{consIf, filter}
+use Rattle.cube.specs.Cube.{size, weight}
+use Rattle.cube.specs.Order.{Graded, columns}
+use Rattle.cube.proofs.Listed.{member-place, filter-cases, member-filter, filter-filter, Distinct, Inside, distinct-places, distinct-filter, member-all}
+
+-- weights never fall along the list
+abbrev Sorted : List ℕ → Type 0
+Sorted [] = Unit {0}
+Sorted (x ∷ xs) = ((u : ℕ) → List·Memᴰ u xs → weight x ≤ weight u) × Sorted xs
+
+-- weights that never fall by place never fall
+sorted-places : (xs : List ℕ) → ((i j : ℕ) → i ≤ j → j < length xs → weight (getD xs i 0) ≤ weight (getD xs j 0)) → Sorted xs
+sorted-places [] h = tt
+sorted-places (x ∷ xs) h = (
+  λ u m. let p = member-place m in rw (← p .2) (h 0 (suc (p .0)) (omega arith) (omega arith)),
+  sorted-places xs (λ i j l m. h (suc i) (suc j) (omega arith) (omega arith)),
+)
+
+-- what a test keeps is sorted
+sorted-filter : (t : ℕ → Bool) (xs : List ℕ) → Sorted xs → Sorted (filter t xs)
+unfolding filter
+sorted-filter t [] h = tt
+sorted-filter t (x ∷ xs) h =
+    let rest : Sorted (filter t xs) = sorted-filter t xs (h .1) in
+    filter-cases Sorted t x xs (λ e. (λ u m. h .0 u (member-filter t xs u .0 m .1), rest)) (λ e. rest)
+
+-- a test that none passes keeps nothing
+filter-none : (t : ℕ → Bool) (xs : List ℕ) → ((u : ℕ) → List·Memᴰ u xs → t u ≡ false) → filter t xs ≡ []
+unfolding filter consIf
+filter-none t [] h = refl
+filter-none t (x ∷ xs) h = rw (h x (List·Memᴰ·head refl)) (filter-none t xs (λ u m. h u (List·Memᴰ·tail m)))
+
+-- the light exponents of a sorted list stand in front
+light-front : (d : ℕ) (xs : List ℕ) → Sorted xs → let light : List ℕ = filter (λ u. leb (weight u) d) xs in light ≡ take (length light) xs
+unfolding filter consIf
+light-front d [] h = refl
+light-front d (x ∷ xs) h = go (leb (weight x) d) refl (light-front d xs (h .1))
+  where
+    light : List ℕ
+    light = filter (λ u. leb (weight u) d) xs
+
+    go : (b : Bool) → leb (weight x) d ≡ b → light ≡ take (length light) xs → consIf b x light ≡ take (length (consIf b x light)) (x ∷ xs)
+    go true e later = ap (λ l. x ∷ l) later
+    go false e later = rw (filter-none (λ u. leb (weight u) d) xs (λ u m. lt-leb (weight u) d (omega (arith, leb-false (weight x) d e, h .0 u m))))
+
+module _ {o : List ℕ} (g : Graded o) where
+  -- an exponent stands once in the order
+  order-distinct : Distinct o
+  order-distinct = distinct-places o (rw (g .long) (g .once))
+
+  -- the exponents of the order are below 512
+  order-inside : Inside 512 o
+  order-inside u m = let p = member-place m in rw (← p .2) (g .inside (p .0) (rw (← g .long) (p .1)))
+
+  -- the columns are the exponents of n taps up to the degree
+  pub member-columns : (n d u : ℕ) → n ≤ 9 → List·Memᴰ u (columns o n d) ↔ ((u < size n) × (weight u ≤ d))
+  member-columns n d u s = (
+    λ m. let a = member-filter _ _ u .0 m in (ltb-true u (size n) (member-filter _ o u .0 (a .1) .0), leb-true (weight u) d (a .0)),
+    λ p. member-filter _ _ u .1 (le-leb (weight u) d (p .1), member-filter _ o u .1 (lt-ltb u (size n) (p .0), all (p .0))),
+  )
+    where
+      all : u < size n → List·Memᴰ u o
+      all l = member-all 512 o (g .long) order-distinct order-inside u (omega (arith, pow-mono s))
+
+  -- each stands once
+  pub columns-distinct : (n d : ℕ) → Distinct (columns o n d)
+  columns-distinct n d = distinct-filter _ _ (distinct-filter _ o order-distinct)
+
+  -- the columns of a degree are the first columns of a higher degree
+  pub columns-prefix : (n d e : ℕ) → d ≤ e → columns o n d ≡ take (length (columns o n d)) (columns o n e)
+  columns-prefix n d e l =
+      let sorted : Sorted (columns o n e) = sorted-filter _ _ (sorted-filter _ o (sorted-places o (rw (g .long) (g .rising)))) in
+      rw (← filter-filter (λ u. leb (weight u) d) (λ u. leb (weight u) e) _ (λ u h. le-leb (weight u) e (omega (arith, leb-true (weight u) d h))))
+      (light-front d (columns o n e) sorted)

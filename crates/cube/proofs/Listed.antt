@@ -1,0 +1,154 @@
+-- Numbers that stand in a list, lists with no number twice, and their sizes.
+--   and-both          both of two tests hold
+--   lists-member      the test `lists` says whether a number is a member
+--   not-listed        it fails for other numbers
+--   member-place      a member has a place
+--   place-member      what has a place is a member
+--   filter-cases        what holds of a list with a first number kept or left out
+--   member-filter       the members that a test keeps
+--   filter-filter         of two tests the second of which is implied by the first, the first decides
+--   Distinct xs       no number stands twice in the list
+--   Inside m xs       each number of the list is below m
+--   distinct-places   a list whose places hold different numbers is distinct
+--   distinct-filter     what a test keeps of a distinct list is distinct
+--   count-listed      a distinct list of numbers below m is as long as the count of its numbers
+--   member-all        m distinct numbers below m are all of them
+use mathlib.Core.Path.{_≡_, refl, sym, ap, _∙_}
+use mathlib.Core.Logic.{_↔_, _⊎_, inl, inr}
+use mathlib.Core.Bool.{Bool, true, false, _&&_, _||_, or-true, false≢true}
+use mathlib.Core.List.{List, [], _∷_, List·Memᴰ, List·Memᴰ·head, List·Memᴰ·tail, List·Memᴰ·not-nil, List·Memᴰ·cases-cons}
+use Prim.Native.Nat.{ℕ, zero, suc, _<_}
+use native.Mathlib.Omega.{arith}
+use lib.Dec.{eqb}
+use lib.ListN.{length, getD}
+use borrow.Author.Tests.{eqb-true, eq-eqb}
+use Rattle.cube.specs.Numbers.{consIf, filter, lists}
+use Rattle.cube.proofs.Count.{countBelow, count-none, count-more, count-full}
+
+-- both of two tests hold
+pub and-both : (a b : Bool) → (a && b) ≡ true → (a ≡ true) × (b ≡ true)
+and-both true b e = (refl, e)
+and-both false b e = absurd (false≢true e)
+
+-- a list with one number more
+lists-step : (x : ℕ) (xs : List ℕ) (u : ℕ) → ((lists xs u ≡ true) ↔ List·Memᴰ u xs) → (lists (x ∷ xs) u ≡ true) ↔ List·Memᴰ u (x ∷ xs)
+unfolding lists
+lists-step x xs u later = (λ e. to (eqb x u) refl e, λ m. back (List·Memᴰ·cases-cons m))
+  where
+    to : (b : Bool) → eqb x u ≡ b → (b || lists xs u) ≡ true → List·Memᴰ u (x ∷ xs)
+    to true e h = List·Memᴰ·head (sym (eqb-true x u e))
+    to false e h = List·Memᴰ·tail (later .0 h)
+
+    back : (u ≡ x) ⊎ List·Memᴰ u xs → (eqb x u || lists xs u) ≡ true
+    back (inl e) = rw (eq-eqb x u (sym e))
+    back (inr m) = rw (later .1 m, or-true)
+
+-- the test `lists` says whether a number is a member
+pub lists-member : (xs : List ℕ) (u : ℕ) → (lists xs u ≡ true) ↔ List·Memᴰ u xs
+unfolding lists
+lists-member [] u = (λ e. absurd (false≢true e), λ m. absurd (List·Memᴰ·not-nil m))
+lists-member (x ∷ xs) u = lists-step x xs u (lists-member xs u)
+
+-- it fails for other numbers
+pub not-listed : (xs : List ℕ) (u : ℕ) → ¬ List·Memᴰ u xs → lists xs u ≡ false
+not-listed xs u n = go (lists xs u) refl
+  where
+    go : (b : Bool) → lists xs u ≡ b → b ≡ false
+    go true e = absurd (n (lists-member xs u .0 e))
+    go false e = refl
+
+-- a member has a place
+pub member-place : {u : ℕ} {xs : List ℕ} → List·Memᴰ u xs → (i : ℕ) × (i < length xs) × (getD xs i 0 ≡ u)
+member-place (List·Memᴰ·head e) = (0, omega arith, sym e)
+member-place (List·Memᴰ·tail m) = let p = member-place m in (suc (p .0), omega arith, p .2)
+
+-- what has a place is a member
+pub place-member : (xs : List ℕ) (i : ℕ) → i < length xs → List·Memᴰ (getD xs i 0) xs
+place-member [] i h = absurd (omega arith)
+place-member (x ∷ xs) zero h = List·Memᴰ·head refl
+place-member (x ∷ xs) (suc i) h = List·Memᴰ·tail (place-member xs i (omega arith))
+
+-- what holds of a list with a first number kept or left out
+pub filter-cases : (P : List ℕ → Type 0) (t : ℕ → Bool) (x : ℕ) (xs : List ℕ)
+    → (t x ≡ true → P (x ∷ filter t xs)) → (t x ≡ false → P (filter t xs)) → P (filter t (x ∷ xs))
+unfolding filter consIf
+filter-cases P t x xs f g = go (t x) refl
+  where
+    go : (b : Bool) → t x ≡ b → P (consIf b x (filter t xs))
+    go true e = f e
+    go false e = g e
+
+-- one member more, kept or not
+filter-step : (t : ℕ → Bool) (x : ℕ) (xs : List ℕ) (u : ℕ) → (List·Memᴰ u (filter t xs) ↔ ((t u ≡ true) × List·Memᴰ u xs))
+    → List·Memᴰ u (filter t (x ∷ xs)) ↔ ((t u ≡ true) × List·Memᴰ u (x ∷ xs))
+filter-step t x xs u later = filter-cases (λ l. List·Memᴰ u l ↔ ((t u ≡ true) × List·Memᴰ u (x ∷ xs))) t x xs
+    (λ e. (λ m. first e (List·Memᴰ·cases-cons m), λ p. front (p .0) (List·Memᴰ·cases-cons (p .1))))
+    (λ e. (λ m. more (later .0 m), λ p. rest e (p .0) (List·Memᴰ·cases-cons (p .1))))
+  where
+    more : (t u ≡ true) × List·Memᴰ u xs → (t u ≡ true) × List·Memᴰ u (x ∷ xs)
+    more (p, m) = (p, List·Memᴰ·tail m)
+
+    first : t x ≡ true → (u ≡ x) ⊎ List·Memᴰ u (filter t xs) → (t u ≡ true) × List·Memᴰ u (x ∷ xs)
+    first e (inl q) = (ap t q ∙ e, List·Memᴰ·head q)
+    first e (inr m) = more (later .0 m)
+
+    front : t u ≡ true → (u ≡ x) ⊎ List·Memᴰ u xs → List·Memᴰ u (x ∷ filter t xs)
+    front p (inl q) = List·Memᴰ·head q
+    front p (inr m) = List·Memᴰ·tail (later .1 (p, m))
+
+    rest : t x ≡ false → t u ≡ true → (u ≡ x) ⊎ List·Memᴰ u xs → List·Memᴰ u (filter t xs)
+    rest e p (inl q) = absurd (false≢true (sym e ∙ ap t (sym q) ∙ p))
+    rest e p (inr m) = later .1 (p, m)
+
+-- the members that a test keeps
+pub member-filter : (t : ℕ → Bool) (xs : List ℕ) (u : ℕ) → List·Memᴰ u (filter t xs) ↔ ((t u ≡ true) × List·Memᴰ u xs)
+unfolding filter
+member-filter t [] u = (λ m. absurd (List·Memᴰ·not-nil m), λ p. absurd (List·Memᴰ·not-nil (p .1)))
+member-filter t (x ∷ xs) u = filter-step t x xs u (member-filter t xs u)
+
+-- of two tests the second of which is implied by the first, the first decides
+pub filter-filter : (t r : ℕ → Bool) (xs : List ℕ) → ((u : ℕ) → t u ≡ true → r u ≡ true) → filter t (filter r xs) ≡ filter t xs
+unfolding filter consIf
+filter-filter t r [] h = refl
+filter-filter t r (x ∷ xs) h = go (r x) refl (t x) refl (filter-filter t r xs h)
+  where
+    go : (b : Bool) → r x ≡ b → (c : Bool) → t x ≡ c → filter t (filter r xs) ≡ filter t xs → filter t (consIf b x (filter r xs)) ≡ consIf c x (filter t xs)
+    go true e c q later = rw q (ap (consIf c x) later)
+    go false e true q later = absurd (false≢true (sym e ∙ h x q))
+    go false e false q later = later
+
+-- no number stands twice
+abbrev pub Distinct : List ℕ → Type 0
+Distinct [] = Unit {0}
+Distinct (x ∷ xs) = (¬ List·Memᴰ x xs) × Distinct xs
+
+-- each number is below m
+abbrev pub Inside : ℕ → List ℕ → Type 0
+Inside m xs = (u : ℕ) → List·Memᴰ u xs → u < m
+
+-- a list whose places hold different numbers is distinct
+pub distinct-places : (xs : List ℕ) → ((i j : ℕ) → i < length xs → j < length xs → getD xs i 0 ≡ getD xs j 0 → i ≡ j) → Distinct xs
+distinct-places [] h = tt
+distinct-places (x ∷ xs) h = (
+  λ m. let p = member-place m in absurd (omega (arith, h 0 (suc (p .0)) (omega arith) (omega arith) (sym (p .2)))),
+  distinct-places xs (λ i j l m e. omega (arith, h (suc i) (suc j) (omega arith) (omega arith) e)),
+)
+
+-- what a test keeps of a distinct list is distinct
+pub distinct-filter : (t : ℕ → Bool) (xs : List ℕ) → Distinct xs → Distinct (filter t xs)
+unfolding filter
+distinct-filter t [] h = tt
+distinct-filter t (x ∷ xs) h =
+    let rest : Distinct (filter t xs) = distinct-filter t xs (h .1) in
+    filter-cases Distinct t x xs (λ e. (λ m. h .0 (member-filter t xs x .0 m .1), rest)) (λ e. rest)
+
+-- a distinct list of numbers below m is as long as the count of its numbers
+pub count-listed : (m : ℕ) (xs : List ℕ) → Distinct xs → Inside m xs → countBelow m (lists xs) ≡ length xs
+unfolding lists
+count-listed m [] h l = count-none m (lists []) (λ u. refl)
+count-listed m (x ∷ xs) h l =
+    count-more m x (lists xs) (l x (List·Memᴰ·head refl)) (not-listed xs x (h .0)) ∙ ap suc (count-listed m xs (h .1) (λ u i. l u (List·Memᴰ·tail i)))
+
+-- m distinct numbers below m are all of them
+pub member-all : (m : ℕ) (xs : List ℕ) → length xs ≡ m → Distinct xs → Inside m xs → (u : ℕ) → u < m → List·Memᴰ u xs
+member-all m xs e h l u i = lists-member xs u .0 (count-full m (lists xs) (count-listed m xs h l ∙ e) u i)

@@ -1,0 +1,89 @@
+-- The points of masks.
+--   member-from     the numbers from one on
+--   length-from     how many they are
+--   value-at        a list of values for the numbers below m holds the value of each at its place
+--   member-points   the points of a mask are those that it marks
+--   points-inside   those of a well formed mask are points of n taps
+--   mask-member     a mask marks what passes its test
+use mathlib.Core.Path.{_≡_, refl, ap, _∙_}
+use mathlib.Core.Logic.{_↔_, _⊎_, inl, inr, ⊎-elim}
+use mathlib.Core.Bool.{Bool, true, false, false≢true}
+use mathlib.Core.List.{List, [], _∷_, map, List·Memᴰ, List·Memᴰ·head, List·Memᴰ·tail, List·Memᴰ·not-nil, List·Memᴰ·cases-cons}
+use Prim.Native.Nat.{ℕ, zero, suc, _+_, _≤_, _<_}
+use native.Mathlib.Omega.{arith}
+use native.Mathlib.Decide.{decLt}
+use native.Mathlib.Nat.{zero-add}
+use lib.Dec.{eqb, leb}
+use lib.ListN.{length, getD, List·getD-eq-default}
+use borrow.Author.Tests.{eqb-true}
+use Rattle.cube.specs.Numbers.{upFrom, below}
+use Rattle.cube.specs.Cube.{size}
+use Rattle.cube.specs.Mask.{bitsThenZeros, wellFormed, member, points, byte, mask}
+use Rattle.cube.proofs.Listed.{and-both, Inside, member-filter}
+
+-- the numbers from one on
+pub member-from : (u k v : ℕ) → List·Memᴰ v (upFrom u k) ↔ ((u ≤ v) × (v < u + k))
+unfolding upFrom
+member-from u zero v = (λ m. absurd (List·Memᴰ·not-nil m), λ p. absurd (omega arith))
+member-from u (suc k) v = go (member-from (suc u) k v)
+  where
+    to : (v ≡ u) ⊎ ((suc u ≤ v) × (v < suc u + k)) → (u ≤ v) × (v < u + suc k)
+    to (inl e) = (omega arith, omega arith)
+    to (inr p) = (omega arith, omega arith)
+
+    go : (List·Memᴰ v (upFrom (suc u) k) ↔ ((suc u ≤ v) × (v < suc u + k))) → List·Memᴰ v (u ∷ upFrom (suc u) k) ↔ ((u ≤ v) × (v < u + suc k))
+    go later = (
+      λ m. to (⊎-elim inl (λ l. inr (later .0 l)) (List·Memᴰ·cases-cons m)),
+      λ p. elim (decLt u v) [
+        | yes l ↦ List·Memᴰ·tail (later .1 (omega arith, omega arith))
+        | no l ↦ let e : v ≡ u = omega arith in List·Memᴰ·head e
+      ],
+    )
+
+-- how many they are
+pub length-from : (u k : ℕ) → length (upFrom u k) ≡ k
+unfolding upFrom
+length-from u zero = refl
+length-from u (suc k) = ap suc (length-from (suc u) k)
+
+-- a value for each of them, by place
+values-from : {B : Type 0} (f : ℕ → B) (u k i : ℕ) (d : B) → i < k → getD (map f (upFrom u k)) i d ≡ f (u + i)
+unfolding upFrom
+values-from f u zero i d l = absurd (omega arith)
+values-from f u (suc k) zero d l = let e : u ≡ u + 0 = omega arith in ap f e
+values-from f u (suc k) (suc i) d l = let e : suc u + i ≡ u + suc i = omega arith in values-from f (suc u) k i d (omega arith) ∙ ap f e
+
+-- a value for each number below m, at its place
+pub value-at : {B : Type 0} (f : ℕ → B) (m i : ℕ) (d : B) → i < m → getD (map f (below m)) i d ≡ f i
+value-at f m i d l = values-from f 0 m i d l ∙ ap f (zero-add i)
+
+-- the points of a mask are those that it marks
+pub member-points : (b : List ℕ) (a : ℕ) → List·Memᴰ a (points b) ↔ (member b a ≡ true)
+member-points b a = (λ m. member-filter (member b) (below (length b)) a .0 m .0, λ e. member-filter (member b) (below (length b)) a .1 (e, place e))
+  where
+    place : member b a ≡ true → List·Memᴰ a (below (length b))
+    place e = elim (decLt a (length b)) [
+      | yes l ↦ member-from 0 (length b) a .1 (omega arith, omega arith)
+      | no l ↦ absurd (omega (arith, eqb-true (getD b a 0) 1 e, List·getD-eq-default b 0 {n = a} (omega arith)))
+    ]
+
+-- what a mask of m bits and then zeros marks is below m
+marked-below : (m : ℕ) (b : List ℕ) (a : ℕ) → bitsThenZeros m b ≡ true → member b a ≡ true → a < m
+unfolding bitsThenZeros
+marked-below m [] a w h = absurd (false≢true h)
+marked-below zero (x ∷ xs) zero w h = absurd (omega (arith, eqb-true x 0 (and-both _ _ w .0), eqb-true x 1 h))
+marked-below zero (x ∷ xs) (suc a) w h = absurd (omega (arith, marked-below zero xs a (and-both (eqb x 0) _ w .1) h))
+marked-below (suc m) (x ∷ xs) zero w h = omega arith
+marked-below (suc m) (x ∷ xs) (suc a) w h = omega (arith, marked-below m xs a (and-both (leb x 1) _ w .1) h)
+
+-- those of a well formed mask are points of n taps
+pub points-inside : (n : ℕ) (b : List ℕ) → wellFormed n b ≡ true → Inside (size n) (points b)
+points-inside n b w a m = marked-below (size n) b a w (member-points b a .0 m)
+
+-- a mask marks what passes its test
+pub mask-member : (t : ℕ → Bool) (u : ℕ) → u < 512 → member (mask t) u ≡ t u
+mask-member t u l = rw (value-at (λ v. byte (t v)) 512 u 0 l) (go (t u))
+  where
+    go : (b : Bool) → eqb (byte b) 1 ≡ b
+    go true = refl
+    go false = refl

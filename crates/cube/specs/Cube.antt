@@ -1,0 +1,21 @@
+-- The cube of n taps: document 01, 'Words and sources'.
+--   size n         the number of points, and of exponents, of n taps: N in document 01
+--   within u a     the exponent u lies within the point a: the monomial u is then 1 at a
+--   weight u       the number of one bits of u
+use mathlib.Core.Bool.{Bool}
+use Prim.Native.Nat.{ℕ, _^_}
+use lib.Bits.{bitAnd}
+use lib.Count.{ones}
+use lib.Dec.{eqb}
+
+-- 2 to the power n
+abbrev pub size : ℕ → ℕ
+size n = 2 ^ n
+
+-- each one bit of the exponent u is a one bit of the point a (bit by bit: proofs/Bits.antt, `within-bits`)
+unfoldable pub within : ℕ → ℕ → Bool
+within u a = eqb (bitAnd u a) u
+
+-- the number of one bits
+abbrev pub weight : ℕ → ℕ
+weight u = ones u

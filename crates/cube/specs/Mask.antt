@@ -1,0 +1,51 @@
+-- Sets, tables and coefficients as they are lent: 512 bytes.
+--   allowed m i x       byte i of a mask of m points may be x
+--   bitsThenZeros m b   the first m bytes of b are 0 or 1, the others 0
+--   wellFormed n b      byte a is 0 or 1 for a below N, and 0 from N on: the 0/1/0 rule of document 01
+--   member b a          the mask b marks the number a
+--   points b            the numbers that the mask b marks, rising
+--   byte b              1 for true, 0 for false
+--   mask t              the 512 bytes that mark the numbers below 512 that pass a test
+use mathlib.Core.Bool.{Bool, true, false, _&&_}
+use mathlib.Core.List.{List, [], _∷_, map}
+use Prim.Native.Nat.{ℕ, zero, suc}
+use lib.Dec.{eqb, leb, ltb}
+use lib.ListN.{length, getD}
+use Rattle.cube.specs.Numbers.{below, filter}
+use Rattle.cube.specs.Cube.{size}
+
+-- a byte for a point is 0 or 1, another is 0
+abbrev pub bitOrZero : Bool → ℕ → Bool
+bitOrZero true x = leb x 1
+bitOrZero false x = eqb x 0
+
+-- byte i of a mask of m points may be x
+abbrev pub allowed : ℕ → ℕ → ℕ → Bool
+allowed m i x = bitOrZero (ltb i m) x
+
+-- the first m bytes are 0 or 1, the others 0
+unfoldable pub bitsThenZeros : ℕ → List ℕ → Bool
+bitsThenZeros m [] = true
+bitsThenZeros zero (x ∷ xs) = eqb x 0 && bitsThenZeros zero xs
+bitsThenZeros (suc m) (x ∷ xs) = leb x 1 && bitsThenZeros m xs
+
+-- the 0/1/0 rule
+abbrev pub wellFormed : ℕ → List ℕ → Bool
+wellFormed n b = bitsThenZeros (size n) b
+
+-- the mask marks the number
+abbrev pub member : List ℕ → ℕ → Bool
+member b a = eqb (getD b a 0) 1
+
+-- the marked numbers, rising
+abbrev pub points : List ℕ → List ℕ
+points b = filter (member b) (below (length b))
+
+-- a bit as a byte
+abbrev pub byte : Bool → ℕ
+byte true = 1
+byte false = 0
+
+-- the 512 bytes that mark what passes a test
+abbrev pub mask : (ℕ → Bool) → List ℕ
+mask t = map (λ u. byte (t u)) (below 512)

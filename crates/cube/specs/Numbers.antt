@@ -1,0 +1,35 @@
+-- Lists of numbers.
+--   upFrom u k       the k numbers from u on, rising
+--   below m          the numbers below m, rising
+--   consIf b x xs    x before the list xs, or not
+--   filter t xs      the members of a list that pass a test, in order
+--   lists xs u       whether the number u stands in the list xs, as a test
+use mathlib.Core.Bool.{Bool, true, false, _||_}
+use mathlib.Core.List.{List, [], _∷_}
+use Prim.Native.Nat.{ℕ, zero, suc}
+use lib.Dec.{eqb}
+
+-- the k numbers from u on
+unfoldable pub upFrom : ℕ → ℕ → List ℕ
+upFrom u zero = []
+upFrom u (suc k) = u ∷ upFrom (suc u) k
+
+-- the numbers below m
+abbrev pub below : ℕ → List ℕ
+below m = upFrom 0 m
+
+-- a number before a list, or not
+unfoldable pub consIf : Bool → ℕ → List ℕ → List ℕ
+consIf true x xs = x ∷ xs
+consIf false x xs = xs
+
+-- the members that pass a test
+unfoldable pub filter : (ℕ → Bool) → List ℕ → List ℕ
+unfolding consIf
+filter t [] = []
+filter t (x ∷ xs) = consIf (t x) x (filter t xs)
+
+-- whether a number stands in a list
+unfoldable pub lists : List ℕ → ℕ → Bool
+lists [] u = false
+lists (x ∷ xs) u = eqb x u || lists xs u

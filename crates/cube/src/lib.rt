@@ -1,0 +1,43 @@
+// Points and exponents of up to nine taps: document 01, 'Words and sources'.
+ghost use mathlib.Core.Path.{_≡_};
+ghost use Prim.Native.Nat.{_≤_};
+ghost use Rattle.cube.specs.Cube.{size as sizeOf, within as withinOf, weight as weightOf};
+
+pub mod order; // order.rt: the graded order of the exponents
+pub mod mask; // mask.rt: sets, tables and coefficients as 512 bytes
+
+// The most taps of a filter.
+pub const TAPS_MAX: usize = 9;
+
+// The points of that many taps: the length of a lent set, table or list of coefficients.
+pub const POINTS: usize = 512;
+
+// A point of the cube.
+pub struct Point(pub u16);
+
+// The ones of an exponent name the variables of one monomial.
+pub struct Exponent(pub u16);
+
+// The number of points of `n` taps, for up to nine taps.
+pub fn size(n: usize) -> usize
+    ensures { λ r. ⌜ (n ≤ 9 → r ≡ sizeOf n) × (r ≤ 512) ⌝ }
+{
+    if TAPS_MAX < n {
+        return POINTS;
+    }
+    1 << n
+}
+
+// Whether the exponent `u` lies within the point `a`: the monomial `u` is then 1 at `a`.
+pub fn within(u: Exponent, a: Point) -> bool
+    ensures { λ r. ⌜ r ≡ withinOf (u .0) (a .0) ⌝ }
+{
+    u.0 & a.0 == u.0
+}
+
+// The number of ones of the exponent `u`.
+pub fn weight(u: Exponent) -> u32
+    ensures { λ r. ⌜ r ≡ weightOf (u .0) ⌝ }
+{
+    u16::count_ones(u.0)
+}

@@ -1,0 +1,30 @@
+// Sets, tables and coefficients as they are lent: byte a is 0 or 1 for a below N, and 0 from N on.
+ghost use mathlib.Core.Path.{_≡_};
+ghost use Prim.Native.Nat.{_≤_};
+ghost use Rattle.cube.specs.Mask.{allowed as allowedOf, wellFormed};
+use crate::size;
+
+// Whether byte `i` of a mask of `points` points may be `x`.
+fn allowed(points: usize, i: usize, x: u8) -> bool
+    ensures { λ r. ⌜ r ≡ allowedOf points i x ⌝ }
+{
+    if i < points {
+        return x <= 1;
+    }
+    x == 0
+}
+
+// Whether each byte is 0 or 1 for a point of `n` taps, and 0 from there on; for up to nine taps.
+pub fn well_formed(mask: &[u8], n: usize) -> bool
+    ensures { λ r. ⌜ (n ≤ 9 → r ≡ wellFormed n (now (mask .entry))) ⌝ }
+{
+    let points = size(n);
+    let mut i: usize = 0;
+    while i < mask.len() {
+        if !allowed(points, i, mask[i]) {
+            return false;
+        }
+        i += 1;
+    }
+    true
+}
