@@ -1,0 +1,2 @@
+-- Laws of the field of two elements.
+pub mod Bits
