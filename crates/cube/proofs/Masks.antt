@@ -2,23 +2,31 @@
 --   member-from     the numbers from one on
 --   length-from     how many they are
 --   value-at        a list of values for the numbers below m holds the value of each at its place
+--   markedFrom b i  the numbers from i on that the mask b marks: what a scan has yet to pass
+--   marked-all      from 0 on they are all
+--   marked-here     a marked number is the first of them
+--   marked-later    one that is not marked is passed over
+--   marked-none     at the end there is none
 --   member-points   the points of a mask are those that it marks
+--   byte-small      each byte of a well formed mask is 0 or 1
+--   byte-zero       and from N on each is 0
 --   points-inside   those of a well formed mask are points of n taps
 --   mask-member     a mask marks what passes its test
 use mathlib.Core.Path.{_≡_, refl, ap, _∙_}
 use mathlib.Core.Logic.{_↔_, _⊎_, inl, inr, ⊎-elim}
-use mathlib.Core.Bool.{Bool, true, false, false≢true}
+use mathlib.Core.Bool.{Bool, true, false}
 use mathlib.Core.List.{List, [], _∷_, map, List·Memᴰ, List·Memᴰ·head, List·Memᴰ·tail, List·Memᴰ·not-nil, List·Memᴰ·cases-cons}
-use Prim.Native.Nat.{ℕ, zero, suc, _+_, _≤_, _<_}
+use Prim.Native.Nat.{ℕ, zero, suc, _+_, _-_, _≤_, _<_}
 use native.Mathlib.Omega.{arith}
 use native.Mathlib.Decide.{decLt}
 use native.Mathlib.Nat.{zero-add}
+use native.Mathlib.Numerals.{add-one}
 use lib.Dec.{eqb, leb}
 use lib.ListN.{length, getD, List·getD-eq-default}
-use borrow.Author.Tests.{eqb-true}
-use Rattle.cube.specs.Numbers.{upFrom, below}
+use borrow.Author.Tests.{eqb-true, leb-true, eq-eqb, ne-eqb}
+use Rattle.cube.specs.Numbers.{upFrom, below, consIf, filter}
 use Rattle.cube.specs.Cube.{size}
-use Rattle.cube.specs.Mask.{bitsThenZeros, wellFormed, member, points, byte, mask}
+use Rattle.cube.specs.Mask.{bitsThenZeros, wellFormed, member, marked, points, byte, mask}
 use Rattle.cube.proofs.Listed.{and-both, Inside, member-filter}
 
 -- the numbers from one on
@@ -57,6 +65,34 @@ values-from f u (suc k) (suc i) d l = let e : suc u + i ≡ u + suc i = omega ar
 pub value-at : {B : Type 0} (f : ℕ → B) (m i : ℕ) (d : B) → i < m → getD (map f (below m)) i d ≡ f i
 value-at f m i d l = values-from f 0 m i d l ∙ ap f (zero-add i)
 
+-- the numbers from i on that a mask marks
+abbrev pub markedFrom : List ℕ → ℕ → List ℕ
+markedFrom b i = filter (member b) (upFrom i (length b - i))
+
+-- from 0 on they are all
+pub marked-all : (b : List ℕ) → marked b ≡ markedFrom b 0
+marked-all b = let z : length b ≡ length b - 0 = omega arith in ap (λ k. filter (member b) (below k)) z
+
+module _ (b : List ℕ) (i : ℕ) where
+  -- a marked number is the first of them
+  pub marked-here : i < length b → getD b i 0 ≡ 1 → markedFrom b i ≡ i ∷ markedFrom b (i + 1)
+  unfolding upFrom filter consIf
+  marked-here l e =
+      let z : length b - i ≡ suc (length b - (i + 1)) = omega arith in
+      rw (z, eq-eqb (getD b i 0) 1 e, add-one)
+
+  -- one that is not marked is passed over
+  pub marked-later : i < length b → (getD b i 0 ≡ 1 → ⊥) → markedFrom b i ≡ markedFrom b (i + 1)
+  unfolding upFrom filter consIf
+  marked-later l e =
+      let z : length b - i ≡ suc (length b - (i + 1)) = omega arith in
+      rw (z, ne-eqb (getD b i 0) 1 e, add-one)
+
+  -- at the end there is none
+  pub marked-none : length b ≤ i → markedFrom b i ≡ []
+  unfolding upFrom filter
+  marked-none l = let z : length b - i ≡ 0 = omega arith in rw z
+
 -- the points of a mask are those that it marks
 pub member-points : (b : List ℕ) (a : ℕ) → List·Memᴰ a (points b) ↔ (member b a ≡ true)
 member-points b a = (λ m. member-filter (member b) (below (length b)) a .0 m .0, λ e. member-filter (member b) (below (length b)) a .1 (e, place e))
@@ -67,18 +103,30 @@ member-points b a = (λ m. member-filter (member b) (below (length b)) a .0 m .0
       | no l ↦ absurd (omega (arith, eqb-true (getD b a 0) 1 e, List·getD-eq-default b 0 {n = a} (omega arith)))
     ]
 
--- what a mask of m bits and then zeros marks is below m
-marked-below : (m : ℕ) (b : List ℕ) (a : ℕ) → bitsThenZeros m b ≡ true → member b a ≡ true → a < m
+-- each byte of m bits and then zeros is 0 or 1
+pub byte-small : (m : ℕ) (b : List ℕ) (i : ℕ) → bitsThenZeros m b ≡ true → getD b i 0 ≤ 1
 unfolding bitsThenZeros
-marked-below m [] a w h = absurd (false≢true h)
-marked-below zero (x ∷ xs) zero w h = absurd (omega (arith, eqb-true x 0 (and-both _ _ w .0), eqb-true x 1 h))
-marked-below zero (x ∷ xs) (suc a) w h = absurd (omega (arith, marked-below zero xs a (and-both (eqb x 0) _ w .1) h))
-marked-below (suc m) (x ∷ xs) zero w h = omega arith
-marked-below (suc m) (x ∷ xs) (suc a) w h = omega (arith, marked-below m xs a (and-both (leb x 1) _ w .1) h)
+byte-small m [] i w = omega arith
+byte-small zero (x ∷ b) zero w = omega (arith, eqb-true x 0 (and-both _ _ w .0))
+byte-small zero (x ∷ b) (suc i) w = byte-small zero b i (and-both (eqb x 0) _ w .1)
+byte-small (suc m) (x ∷ b) zero w = leb-true x 1 (and-both _ _ w .0)
+byte-small (suc m) (x ∷ b) (suc i) w = byte-small m b i (and-both (leb x 1) _ w .1)
+
+-- and from m on each is 0
+pub byte-zero : (m : ℕ) (b : List ℕ) (i : ℕ) → bitsThenZeros m b ≡ true → m ≤ i → getD b i 0 ≡ 0
+unfolding bitsThenZeros
+byte-zero m [] i w l = refl
+byte-zero zero (x ∷ b) zero w l = eqb-true x 0 (and-both _ _ w .0)
+byte-zero zero (x ∷ b) (suc i) w l = byte-zero zero b i (and-both (eqb x 0) _ w .1) (omega arith)
+byte-zero (suc m) (x ∷ b) zero w l = absurd (omega arith)
+byte-zero (suc m) (x ∷ b) (suc i) w l = byte-zero m b i (and-both (leb x 1) _ w .1) (omega arith)
 
 -- those of a well formed mask are points of n taps
 pub points-inside : (n : ℕ) (b : List ℕ) → wellFormed n b ≡ true → Inside (size n) (points b)
-points-inside n b w a m = marked-below (size n) b a w (member-points b a .0 m)
+points-inside n b w a m = elim (decLt a (size n)) [
+  | yes l ↦ l
+  | no l ↦ absurd (omega (arith, eqb-true (getD b a 0) 1 (member-points b a .0 m), byte-zero (size n) b a w (omega arith)))
+]
 
 -- a mask marks what passes its test
 pub mask-member : (t : ℕ → Bool) (u : ℕ) → u < 512 → member (mask t) u ≡ t u

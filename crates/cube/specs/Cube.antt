@@ -1,12 +1,17 @@
 -- The cube of n taps: document 01, 'Words and sources'.
+--   taps n         n is a number of taps, 1 to 9
 --   size n         the number of points, and of exponents, of n taps: N in document 01
 --   within u a     the exponent u lies within the point a: the monomial u is then 1 at a
 --   weight u       the number of one bits of u
-use mathlib.Core.Bool.{Bool}
+use mathlib.Core.Bool.{Bool, _&&_}
 use Prim.Native.Nat.{ℕ, _^_}
 use lib.Bits.{bitAnd}
 use lib.Count.{ones}
-use lib.Dec.{eqb}
+use lib.Dec.{eqb, leb}
+
+-- from 1 to 9
+abbrev pub taps : ℕ → Bool
+taps n = leb 1 n && leb n 9
 
 -- 2 to the power n
 abbrev pub size : ℕ → ℕ

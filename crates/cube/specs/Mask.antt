@@ -3,7 +3,8 @@
 --   bitsThenZeros m b   the first m bytes of b are 0 or 1, the others 0
 --   wellFormed n b      byte a is 0 or 1 for a below N, and 0 from N on: the 0/1/0 rule of document 01
 --   member b a          the mask b marks the number a
---   points b            the numbers that the mask b marks, rising
+--   marked b            the numbers that the mask b marks, rising
+--   points b            the same of a set: its points
 --   byte b              1 for true, 0 for false
 --   mask t              the 512 bytes that mark the numbers below 512 that pass a test
 use mathlib.Core.Bool.{Bool, true, false, _&&_}
@@ -38,8 +39,12 @@ abbrev pub member : List ℕ → ℕ → Bool
 member b a = eqb (getD b a 0) 1
 
 -- the marked numbers, rising
+abbrev pub marked : List ℕ → List ℕ
+marked b = filter (member b) (below (length b))
+
+-- the points of a set
 abbrev pub points : List ℕ → List ℕ
-points b = filter (member b) (below (length b))
+points b = marked b
 
 -- a bit as a byte
 abbrev pub byte : Bool → ℕ

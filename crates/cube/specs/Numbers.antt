@@ -4,6 +4,7 @@
 --   consIf b x xs    x before the list xs, or not
 --   filter t xs      the members of a list that pass a test, in order
 --   lists xs u       whether the number u stands in the list xs, as a test
+--   isEmpty xs       whether a list has no member
 use mathlib.Core.Bool.{Bool, true, false, _||_}
 use mathlib.Core.List.{List, [], _∷_}
 use Prim.Native.Nat.{ℕ, zero, suc}
@@ -33,3 +34,8 @@ filter t (x ∷ xs) = consIf (t x) x (filter t xs)
 unfoldable pub lists : List ℕ → ℕ → Bool
 lists [] u = false
 lists (x ∷ xs) u = eqb x u || lists xs u
+
+-- a list has no member
+unfoldable pub isEmpty : List ℕ → Bool
+isEmpty [] = true
+isEmpty (x ∷ xs) = false

@@ -1,7 +1,7 @@
 // Points and exponents of up to nine taps: document 01, 'Words and sources'.
 ghost use mathlib.Core.Path.{_≡_};
 ghost use Prim.Native.Nat.{_≤_};
-ghost use Rattle.cube.specs.Cube.{size as sizeOf, within as withinOf, weight as weightOf};
+ghost use Rattle.cube.specs.Cube.{taps, size as sizeOf, within as withinOf, weight as weightOf};
 
 pub mod order; // order.rt: the graded order of the exponents
 pub mod mask; // mask.rt: sets, tables and coefficients as 512 bytes
@@ -17,6 +17,16 @@ pub struct Point(pub u16);
 
 // The ones of an exponent name the variables of one monomial.
 pub struct Exponent(pub u16);
+
+// Whether `n` is a number of taps.
+pub fn valid_taps(n: usize) -> bool
+    ensures { λ r. ⌜ r ≡ taps n ⌝ }
+{
+    if n < 1 {
+        return false;
+    }
+    n <= TAPS_MAX
+}
 
 // The number of points of `n` taps, for up to nine taps.
 pub fn size(n: usize) -> usize

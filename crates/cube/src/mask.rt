@@ -1,7 +1,8 @@
 // Sets, tables and coefficients as they are lent: byte a is 0 or 1 for a below N, and 0 from N on.
 ghost use mathlib.Core.Path.{_≡_};
 ghost use Prim.Native.Nat.{_≤_};
-ghost use Rattle.cube.specs.Mask.{allowed as allowedOf, wellFormed};
+ghost use Rattle.cube.specs.Numbers.{isEmpty};
+ghost use Rattle.cube.specs.Mask.{allowed as allowedOf, wellFormed, marked};
 use crate::size;
 
 // Whether byte `i` of a mask of `points` points may be `x`.
@@ -22,6 +23,20 @@ pub fn well_formed(mask: &[u8], n: usize) -> bool
     let mut i: usize = 0;
     while i < mask.len() {
         if !allowed(points, i, mask[i]) {
+            return false;
+        }
+        i += 1;
+    }
+    true
+}
+
+// Whether the mask marks nothing.
+pub fn is_empty(mask: &[u8]) -> bool
+    ensures { λ r. ⌜ r ≡ isEmpty (marked (now (mask .entry))) ⌝ }
+{
+    let mut i: usize = 0;
+    while i < mask.len() {
+        if mask[i] == 1 {
             return false;
         }
         i += 1;
