@@ -10,6 +10,9 @@
 --   member-points   the points of a mask are those that it marks
 --   byte-small      each byte of a well formed mask is 0 or 1
 --   byte-zero       and from N on each is 0
+--   bytes-formed    a mask with such bytes is well formed
+--   member-byte     a bit as a byte, read back
+--   byte-member     a byte that is 0 or 1 is that of its bit
 --   points-inside   those of a well formed mask are points of n taps
 --   mask-member     a mask marks what passes its test
 use mathlib.Core.Path.{_≡_, refl, ap, _∙_}
@@ -23,7 +26,7 @@ use native.Mathlib.Nat.{zero-add}
 use native.Mathlib.Numerals.{add-one}
 use lib.Dec.{eqb, leb}
 use lib.ListN.{length, getD, List·getD-eq-default}
-use borrow.Author.Tests.{eqb-true, leb-true, eq-eqb, ne-eqb}
+use borrow.Author.Tests.{eqb-true, leb-true, eq-eqb, ne-eqb, le-leb}
 use Rattle.cube.specs.Numbers.{upFrom, below, consIf, filter}
 use Rattle.cube.specs.Cube.{size}
 use Rattle.cube.specs.Mask.{bitsThenZeros, wellFormed, member, marked, points, byte, mask}
@@ -121,6 +124,29 @@ byte-zero zero (x ∷ b) (suc i) w l = byte-zero zero b i (and-both (eqb x 0) _ 
 byte-zero (suc m) (x ∷ b) zero w l = absurd (omega arith)
 byte-zero (suc m) (x ∷ b) (suc i) w l = byte-zero m b i (and-both (leb x 1) _ w .1) (omega arith)
 
+-- bytes that are 0 or 1 below m, and 0 from m on
+pub bytes-formed : (m : ℕ) (b : List ℕ) → ((i : ℕ) → i < m → getD b i 0 ≤ 1) → ((i : ℕ) → m ≤ i → getD b i 0 ≡ 0) → bitsThenZeros m b ≡ true
+unfolding bitsThenZeros
+bytes-formed m [] low high = refl
+bytes-formed zero (x ∷ b) low high =
+    rw (eq-eqb x 0 (high 0 (omega arith))) (bytes-formed zero b (λ i l. absurd (omega arith)) (λ i l. high (suc i) (omega arith)))
+bytes-formed (suc m) (x ∷ b) low high =
+    rw (le-leb x 1 (low 0 (omega arith))) (bytes-formed m b (λ i l. low (suc i) (omega arith)) (λ i l. high (suc i) (omega arith)))
+
+-- a bit as a byte, read back
+pub member-byte : (t : Bool) → eqb (byte t) 1 ≡ t
+member-byte true = refl
+member-byte false = refl
+
+-- a byte that is 0 or 1 is that of its bit
+pub byte-member : (b : List ℕ) (a : ℕ) → getD b a 0 ≤ 1 → byte (member b a) ≡ getD b a 0
+byte-member b a l = go (getD b a 0) l
+  where
+    go : (x : ℕ) → x ≤ 1 → byte (eqb x 1) ≡ x
+    go zero l = refl
+    go (suc zero) l = refl
+    go (suc (suc x)) l = absurd (omega arith)
+
 -- those of a well formed mask are points of n taps
 pub points-inside : (n : ℕ) (b : List ℕ) → wellFormed n b ≡ true → Inside (size n) (points b)
 points-inside n b w a m = elim (decLt a (size n)) [
@@ -130,8 +156,4 @@ points-inside n b w a m = elim (decLt a (size n)) [
 
 -- a mask marks what passes its test
 pub mask-member : (t : ℕ → Bool) (u : ℕ) → u < 512 → member (mask t) u ≡ t u
-mask-member t u l = rw (value-at (λ v. byte (t v)) 512 u 0 l) (go (t u))
-  where
-    go : (b : Bool) → eqb (byte b) 1 ≡ b
-    go true = refl
-    go false = refl
+mask-member t u l = rw (value-at (λ v. byte (t v)) 512 u 0 l) (member-byte (t u))

@@ -16,7 +16,7 @@ use lib.Seq.{ext-getD, length-take-le, getD-take, getD-drop, getD-append-add}
 use Rattle.cube.specs.Numbers.{upFrom, below}
 use Rattle.cube.specs.Cube.{size, within}
 use Rattle.cube.specs.Mask.{member, byte}
-use Rattle.cube.proofs.Masks.{length-from, value-at}
+use Rattle.cube.proofs.Masks.{length-from, value-at, byte-member}
 use Rattle.gf2.proofs.Bits.{false-xor}
 use Rattle.polynomial.specs.Polynomial.{Polynomial, sumBelow, value}
 use Rattle.polynomial.specs.Convert.{Bits, values, lowerAdded}
@@ -39,17 +39,11 @@ values-same n p q h =
     (λ a l. let in-cube : a < size n = omega (arith, length-values n p) in
     values-at n p a in-cube ∙ ap byte (value-same n p q a h) ∙ sym (values-at n q a in-cube))
 
--- a byte of a bit is that bit
-byte-bit : (x : ℕ) → x ≤ 1 → x ≡ byte (eqb x 1)
-byte-bit zero l = refl
-byte-bit (suc zero) l = refl
-byte-bit (suc (suc x)) l = absurd (omega arith)
-
 -- with no tap, the one byte is its own transform
 pub one-value : (s : List ℕ) → length s ≡ 1 → Bits s → s ≡ values 0 (member s)
 unfolding values value sumBelow upFrom within
 one-value [] e b = absurd (omega arith)
-one-value (x ∷ []) e b = simp (false-xor, and-true) (ap (λ y. y ∷ []) (byte-bit x (b 0)))
+one-value (x ∷ []) e b = simp (false-xor, and-true) (ap (λ y. y ∷ []) (sym (byte-member (x ∷ []) 0 (b 0))))
 one-value (x ∷ y ∷ s) e b = absurd (omega arith)
 
 -- the sum of two bits as bytes

@@ -6,4 +6,6 @@ pub mod Halves
 pub mod Parts
 pub mod Checks
 pub mod Converted
+pub mod NormalForm
+pub mod Largest
 pub mod HasDegree

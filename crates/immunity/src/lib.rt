@@ -1,0 +1,1 @@
+// Restricted algebraic immunity: document 01, 'Judgement', and the demands on the whole.
