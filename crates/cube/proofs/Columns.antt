@@ -2,7 +2,7 @@
 --   member-columns     the columns are the exponents of n taps up to the degree
 --   columns-distinct   each stands once
 --   columns-prefix     the columns of a degree are the first columns of a higher degree
-use mathlib.Core.Path.{_≡_, refl, sym, ap, _∙_}
+use mathlib.Core.Path.{_≡_, refl, ap}
 use mathlib.Core.Logic.{_↔_}
 use mathlib.Core.Bool.{Bool, true, false}
 use mathlib.Core.List.{List, [], _∷_, List·Memᴰ, List·Memᴰ·head, List·Memᴰ·tail}

@@ -5,7 +5,7 @@
 --   checks-pass    no check is broken
 --   Passed         what the checks show where none is broken
 --   checks-passed  an outcome that accepts after the checks has passed them
-use mathlib.Core.Path.{_≡_, refl}
+use mathlib.Core.Path.{_≡_}
 use mathlib.Core.Bool.{true, false}
 use mathlib.Core.List.{List, [], _∷_}
 use Prim.Native.Nat.{ℕ}

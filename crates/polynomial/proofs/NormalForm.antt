@@ -3,9 +3,9 @@
 --   converted-at       what is left at a number below N
 --   converted-formed   what is left obeys the 0/1/0 rule
 --   converted-twice    converting twice gives back every table
-use mathlib.Core.Path.{_≡_, refl, sym, ap, _∙_}
+use mathlib.Core.Path.{_≡_, ap, _∙_}
 use mathlib.Core.Bool.{Bool, true, false}
-use mathlib.Core.List.{List, _++_}
+use mathlib.Core.List.{List}
 use Prim.Native.Nat.{ℕ, _+_, _-_, _≤_, _<_}
 use native.Mathlib.Decide.{decLt}
 use native.Mathlib.Omega.{arith}
@@ -15,7 +15,7 @@ use lib.Seq.{ext-getD, getD-append-add, getD-drop}
 use Rattle.cube.specs.Cube.{size}
 use Rattle.cube.specs.Mask.{wellFormed, member, byte}
 use Rattle.cube.proofs.Masks.{byte-small, byte-zero, bytes-formed, byte-member, member-byte}
-use Rattle.polynomial.specs.Polynomial.{Polynomial, value}
+use Rattle.polynomial.specs.Polynomial.{value}
 use Rattle.polynomial.specs.Convert.{values, converted}
 use Rattle.polynomial.proofs.Value.{value-same, value-twice}
 use Rattle.polynomial.proofs.Halves.{length-values, values-at}

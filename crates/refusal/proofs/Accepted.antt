@@ -5,7 +5,7 @@ use mathlib.Core.Bool.{Bool, true, false}
 use mathlib.Core.List.{List, _∷_}
 use Prim.Native.Nat.{ℕ}
 use native.Mathlib.Omega.{arith}
-use Rattle.refusal.specs.Outcome.{Outcome, refused, accepted, Check, _otherwise_, checked}
+use Rattle.refusal.specs.Outcome.{Outcome, accepted, Check, _otherwise_, checked}
 use Rattle.refusal.specs.declared.Refusal.{Refusal}
 
 -- an outcome that accepts after checks has passed the first of them
