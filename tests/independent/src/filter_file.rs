@@ -1,0 +1,97 @@
+// Read, document 01, "Filter file".
+use crate::refusal::{POINTS, Refusal, lengths, require, taps};
+
+// What a file says: n, the points of S, and the points where f is 1.
+#[derive(Clone, Debug, PartialEq, Eq)]
+pub struct Triple {
+    pub n: usize,
+    pub set: Vec<usize>,
+    pub table: Vec<usize>,
+}
+
+// Draws the next house number.
+fn draw_number(file: &mut impl Iterator<Item = u8>) -> Result<usize, Refusal> {
+    let low = file.next().ok_or(Refusal::FileEnds)?;
+    if low < 0x80 {
+        return Ok(low.into());
+    }
+    let high = file.next().ok_or(Refusal::FileEnds)?;
+    match high {
+        0x01..=0x7f => Ok(usize::from(low & 0x7f) + 128 * usize::from(high)),
+        _ => Err(Refusal::NumberForm),
+    }
+}
+
+// Draws a list of points below the size, at least `least` of them.
+fn draw_list(file: &mut impl Iterator<Item = u8>, size: usize, least: usize) -> Result<Vec<usize>, Refusal> {
+    let count = draw_number(file)?;
+    require(count <= size, Refusal::Range)?;
+    require(count >= least, Refusal::EmptySet)?;
+    let mut points: Vec<usize> = Vec::new();
+    while points.len() < count {
+        let number = draw_number(file)?;
+        let point = match points.last() {
+            Some(_) if number == 0 => return Err(Refusal::Range),
+            Some(before) => before + number,
+            None => number,
+        };
+        require(point < size, Refusal::Range)?;
+        points.push(point);
+    }
+    Ok(points)
+}
+
+// What the file says, or the first reason why it says nothing.
+pub fn parse(file: &[u8]) -> Result<Triple, Refusal> {
+    let mut file = file.iter().copied();
+    let n = draw_number(&mut file)?;
+    taps(n)?;
+    let set = draw_list(&mut file, 1 << n, 1)?;
+    let table = draw_list(&mut file, 1 << n, 0)?;
+    require(file.next().is_none(), Refusal::Surplus)?;
+    Ok(Triple { n, set, table })
+}
+
+// Each byte becomes 1 at the points and 0 elsewhere.
+fn mark(mask: &mut [u8], points: &[usize]) {
+    mask.fill(0);
+    for a in points {
+        mask[*a] = 1;
+    }
+}
+
+// Read.
+pub fn read(file: &[u8], set: &mut [u8], table: &mut [u8]) -> Result<usize, u8> {
+    lengths(&[(set.len(), POINTS), (table.len(), POINTS)])?;
+    let triple = parse(file)?;
+    mark(set, &triple.set);
+    mark(table, &triple.table);
+    Ok(triple.n)
+}
+
+// The groups of a house number below 16,384, in the shortest form.
+pub fn house_number(number: usize) -> Vec<u8> {
+    let (low, high) = ((number % 128) as u8, (number / 128) as u8);
+    if high == 0 { vec![low] } else { vec![low + 128, high] }
+}
+
+// The numbers of a list: its count, the first point, then the differences.
+fn list_numbers(points: &[usize]) -> Vec<usize> {
+    let differences = points.windows(2).map(|pair| pair[1] - pair[0]);
+    let mut numbers = vec![points.len()];
+    numbers.extend(points.first());
+    numbers.extend(differences);
+    numbers
+}
+
+impl Triple {
+    // The numbers of the file, one after the other.
+    pub fn numbers(&self) -> Vec<usize> {
+        [vec![self.n], list_numbers(&self.set), list_numbers(&self.table)].concat()
+    }
+
+    // The file that says this.
+    pub fn file(&self) -> Vec<u8> {
+        self.numbers().into_iter().flat_map(house_number).collect()
+    }
+}

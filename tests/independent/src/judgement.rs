@@ -1,0 +1,111 @@
+// Judge, Certify and Hand over, document 01, "Judgement".
+use crate::normal_form::within;
+use crate::rank::{columns, points_of, ranking, row, row_span};
+use crate::refusal::{CERTIFICATE, POINTS, Refusal, WORKSPACE, bytes, lengths, require, taps};
+use crate::span::{Bits, Span};
+
+// What Judge and Certify are asked about, as it is lent.
+#[derive(Clone, Copy, Debug)]
+pub struct Filter<'a> {
+    pub n: usize,
+    pub set: &'a [u8],
+    pub table: &'a [u8],
+}
+
+// What Judge answers: for each d the ranks of S, part 1 and part 0; the degree, the side and the additions.
+#[derive(Clone, Debug, PartialEq, Eq)]
+pub struct Judgement {
+    pub ranks: [[usize; 3]; 10],
+    pub degree: usize,
+    pub side: u8,
+    pub additions: u32,
+}
+
+impl Filter<'_> {
+    // The points of S where the table has this value.
+    fn part(&self, side: u8) -> Vec<usize> {
+        points_of(self.set).into_iter().filter(|a| self.table[*a] == side).collect()
+    }
+
+    // Refusal 1 unless the set and the table are 512 long.
+    fn check_lengths(&self) -> Result<(), Refusal> {
+        lengths(&[(self.set.len(), POINTS), (self.table.len(), POINTS)])
+    }
+
+    // The checks of n, the set and the table, in order.
+    fn check(&self) -> Result<(), Refusal> {
+        taps(self.n)?;
+        bytes(self.set, self.n)?;
+        bytes(self.table, self.n)?;
+        require(self.set.contains(&1), Refusal::EmptySet)
+    }
+}
+
+// The witness of a part that differs from the points at degree d: the exponents chosen.
+fn witness(points: &[usize], part: &[usize], n: usize, d: usize) -> Bits {
+    let rows = row_span(part, d);
+    let outside = points.iter().find(|a| rows.express(row(d, **a)).is_none());
+    let p = *outside.expect("the side differs");
+    let column = |u: usize| part.iter().chain([&p]).copied().filter(move |a| within(u, *a)).collect();
+    let kept: Span = columns(n, d).into_iter().map(|u| (u, column(u))).collect();
+    kept.express(Bits::from_iter([p])).expect("the row of p is not a sum of rows of the part")
+}
+
+// The buffer becomes the choice of exponents, or zeros where there is none.
+fn write_choice(buffer: &mut [u8], choice: Option<Bits>) {
+    buffer.fill(0);
+    for u in choice.iter().flat_map(|bits| bits.places()) {
+        buffer[u] = 1;
+    }
+}
+
+// Judge.
+pub fn judge(filter: Filter, workspace: &mut [u64], one: &mut [u8], zero: &mut [u8]) -> Result<Judgement, u8> {
+    filter.check_lengths()?;
+    lengths(&[(workspace.len(), WORKSPACE), (one.len(), POINTS), (zero.len(), POINTS)])?;
+    filter.check()?;
+    let n = filter.n;
+    workspace.fill(0);
+    let lists = [points_of(filter.set), filter.part(1), filter.part(0)];
+    let (mut ranks, mut additions) = ([[0; 3]; 10], 0);
+    for (d, i) in (0..=n).flat_map(|d| [(d, 0), (d, 1), (d, 2)]) {
+        let found = ranking(&lists[i], n, d);
+        ranks[d][i] = found.rank;
+        additions += found.additions;
+    }
+    let differs = |d: usize, i: usize| ranks[d][i] != ranks[d][0];
+    let degree = (0..=n).find(|d| differs(*d, 1) || differs(*d, 2)).expect("at n a part differs");
+    let found = |i: usize| differs(degree, i).then(|| witness(&lists[0], &lists[i], n, degree));
+    write_choice(one, found(1));
+    write_choice(zero, found(2));
+    let side = differs(degree, 1).into();
+    Ok(Judgement { ranks, degree, side, additions })
+}
+
+// Certify.
+pub fn certify(filter: Filter, side: u8, d: usize, workspace: &mut [u64], certificate: &mut [u64]) -> Result<(), u8> {
+    filter.check_lengths()?;
+    lengths(&[(workspace.len(), WORKSPACE), (certificate.len(), CERTIFICATE)])?;
+    filter.check()?;
+    require(d <= filter.n, Refusal::Degree)?;
+    require(side <= 1, Refusal::Side)?;
+    workspace.fill(0);
+    let rows = row_span(&filter.part(side), d);
+    require(rows.rank() == row_span(&points_of(filter.set), d).rank(), Refusal::RanksDiffer)?;
+    certificate.fill(0);
+    for a in filter.part(1 - side) {
+        let sum = rows.express(row(d, a)).expect("the ranks are equal");
+        sum.places().for_each(|q| certificate[8 * a + q / 64] |= 1 << (q % 64));
+    }
+    Ok(())
+}
+
+// Hand over.
+pub fn hand_over<'a>(n: usize, side: u8, one: &'a [u8], zero: &'a [u8]) -> &'a [u8] {
+    let good = taps(n).is_ok() && side <= 1 && one.len() == POINTS && zero.len() == POINTS;
+    match side {
+        _ if !good => &[],
+        1 => &one[..1 << n],
+        _ => &zero[..1 << n],
+    }
+}

@@ -1,0 +1,134 @@
+// Masks, filters and files for tests.
+use crate::filter_file::Triple;
+use crate::normal_form::{convert, weight};
+use crate::random::Random;
+use crate::rank::points_of;
+use crate::refusal::POINTS;
+
+impl Random {
+    // A mask of n taps in which about `share` of every eight points are chosen.
+    pub fn mask(&mut self, n: usize, share: usize) -> Vec<u8> {
+        mask_of(n, |_| self.below(8) < share)
+    }
+
+    // Masks of n taps, cut or extended with zeros to the length: a good one, none, and ones that break the 0/1/0 rule
+    // at the first place, the last below N, the first from N on and the last.
+    pub fn lent_masks(&mut self, n: usize, length: usize) -> Vec<Vec<u8>> {
+        let (n, size) = (n.min(9), 1 << n.min(9));
+        let mut masks = vec![self.mask(n, 4), vec![0; POINTS]];
+        for (place, value) in [(0, 2), (size - 1, 255), (size, 1), (POINTS - 1, 2)] {
+            let mut mask = self.mask(n, 4);
+            mask[place.min(POINTS - 1)] = value;
+            masks.push(mask);
+        }
+        masks.iter_mut().for_each(|mask| mask.resize(length, 0));
+        masks
+    }
+
+    // A triple that a file can say: n, some points as the set, and points as the table.
+    pub fn triple(&mut self, n: usize) -> Triple {
+        let (for_set, for_table, sure) = (self.below(9), self.below(9), self.below(1 << n));
+        let mut set = self.mask(n, for_set);
+        set[sure] = 1;
+        let table = self.mask(n, for_table);
+        Triple { n, set: points_of(&set), table: points_of(&table) }
+    }
+
+    // A set of n taps with a point: the whole cube, one weight, some weights, a subspace moved, one point, or points
+    // at random, by kind.
+    pub fn set(&mut self, n: usize, kind: usize) -> Vec<u8> {
+        let (point, share) = (self.below(1 << n), 1 + self.below(8));
+        let weights = self.number() as usize | 1 << weight(point);
+        let mut set = match kind % 6 {
+            0 => mask_of(n, |_| true),
+            1 => mask_of(n, |a| weight(a) == weight(point)),
+            2 => mask_of(n, |a| weights >> weight(a) & 1 == 1),
+            3 => self.subspace(n, point),
+            4 => mask_of(n, |a| a == point),
+            _ => self.mask(n, share),
+        };
+        set[point] = 1;
+        set
+    }
+
+    // The sums of a point and some of a few random numbers.
+    fn subspace(&mut self, n: usize, point: usize) -> Vec<u8> {
+        let mut points = vec![point];
+        for _ in 0..1 + self.below(n) {
+            let step = self.below(1 << n);
+            points.extend(points.clone().iter().map(|a| a ^ step));
+        }
+        mask_of(n, |a| points.contains(&a))
+    }
+
+    // A table of n taps: majority, a constant, of low degree, or at random, by kind.
+    pub fn table(&mut self, n: usize, kind: usize) -> Vec<u8> {
+        let (degree, share) = (1 + self.below(2), 1 + self.below(7));
+        match kind % 5 {
+            0 => mask_of(n, |a| 2 * weight(a) > n),
+            1 => mask_of(n, |_| false),
+            2 => mask_of(n, |_| true),
+            3 => {
+                let mut low = mask_of(n, |u| weight(u) <= degree && self.below(2) == 1);
+                convert(&mut low, n).expect("coefficients of n taps");
+                low
+            }
+            _ => self.mask(n, share),
+        }
+    }
+}
+
+// The mask of the points of n taps that are chosen.
+pub fn mask_of(n: usize, mut chosen: impl FnMut(usize) -> bool) -> Vec<u8> {
+    let mut mask = vec![0; POINTS];
+    for (a, x) in mask.iter_mut().enumerate().take(1 << n) {
+        *x = chosen(a).into();
+    }
+    mask
+}
+
+// How often each number was answered, 0 for acceptance.
+pub struct Tally([usize; 256]);
+
+impl Default for Tally {
+    // Nothing was answered.
+    fn default() -> Tally {
+        Tally([0; 256])
+    }
+}
+
+impl Tally {
+    // Counts the answer, and gives its number.
+    pub fn count<T>(&mut self, answer: Result<T, u8>) -> u8 {
+        let number = answer.err().unwrap_or(0);
+        self.0[number as usize] += 1;
+        number
+    }
+
+    // The numbers answered so often or more.
+    pub fn numbers(&self, least: usize) -> Vec<usize> {
+        (0..256).filter(|k| self.0[*k] >= least).collect()
+    }
+}
+
+// Every pair of an item of the first list and an item of the second.
+pub fn pairs<A: Copy, B: Copy>(first: &[A], second: &[B]) -> Vec<(A, B)> {
+    first.iter().flat_map(|a| second.iter().map(|b| (*a, *b))).collect()
+}
+
+// The files that document 01 lists, each with its refusal number, or 0 for the one that is read.
+pub const LISTED_FILES: [(&[u8], u8); 13] = [
+    (&[], 2),
+    (&[0x80], 2),
+    (&[0x80, 0x80], 3),
+    (&[0x82, 0x00], 3),
+    (&[0x00], 4),
+    (&[0x0a], 4),
+    (&[0x09], 2),
+    (&[0x01, 0x03], 5),
+    (&[0x01, 0x00], 6),
+    (&[0x02, 0x01, 0x04], 5),
+    (&[0x02, 0x02, 0x01, 0x00], 5),
+    (&[0x01, 0x01, 0x00, 0x00, 0x00], 7),
+    (&[0x01, 0x01, 0x00, 0x00], 0),
+];

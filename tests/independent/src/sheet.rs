@@ -1,0 +1,60 @@
+// The printed sheet, document 01.
+use crate::filter_file::read;
+use crate::judgement::{Filter, Judgement, certify, judge};
+use crate::rank::{columns, points_of};
+use crate::refusal::{CERTIFICATE, POINTS, WORKSPACE};
+use std::fmt::Write;
+
+const INPUT: usize = 4096;
+
+// The numbers one space apart, each after a space.
+fn spaced(numbers: impl Iterator<Item = usize>) -> String {
+    numbers.map(|number| format!(" {number}")).collect()
+}
+
+// The sums of the certificate of a side at degree d, a line for each point.
+fn sum_lines(filter: Filter, side: u8, d: usize) -> Result<String, u8> {
+    let mut certificate = vec![0; CERTIFICATE];
+    certify(filter, side, d, &mut vec![0; WORKSPACE], &mut certificate)?;
+    let mut lines = String::new();
+    for (a, row) in certificate.chunks(8).enumerate() {
+        let summed = (0..POINTS).filter(|q| row[q / 64] >> (q % 64) & 1 == 1);
+        let sum = spaced(summed);
+        if !sum.is_empty() {
+            let _ = writeln!(lines, "side {side} point {a} sum{sum}");
+        }
+    }
+    Ok(lines)
+}
+
+// The line with the degree, the side and that side's witness.
+fn degree_line(n: usize, judgement: &Judgement, witness: &[u8]) -> String {
+    let chosen = columns(n, n).into_iter().filter(|u| witness[*u] == 1);
+    format!("degree {} side {} witness{}\n", judgement.degree, judgement.side, spaced(chosen))
+}
+
+// The sheet of a file that is read.
+fn accepted(file: &[u8]) -> Result<String, u8> {
+    let (mut set, mut table) = (vec![0; POINTS], vec![0; POINTS]);
+    let n = read(file, &mut set, &mut table)?;
+    let (mut one, mut zero) = (vec![0; POINTS], vec![0; POINTS]);
+    let filter = Filter { n, set: &set, table: &table };
+    let judgement = judge(filter, &mut vec![0; WORKSPACE], &mut one, &mut zero)?;
+    let mut sheet = format!("n {n} points {} mark {}\n", points_of(&set).len(), n.div_ceil(2));
+    for (d, [all, part_one, part_zero]) in judgement.ranks[..=n].iter().enumerate() {
+        let _ = writeln!(sheet, "{d} {all} {part_one} {part_zero}");
+    }
+    sheet += &degree_line(n, &judgement, if judgement.side == 1 { &one } else { &zero });
+    if let Some(d) = judgement.degree.checked_sub(1) {
+        sheet += &sum_lines(filter, 1, d)?;
+        sheet += &sum_lines(filter, 0, d)?;
+    }
+    let _ = writeln!(sheet, "additions {}", judgement.additions);
+    Ok(sheet)
+}
+
+// What the sheet program prints for this standard input.
+pub fn sheet(input: &[u8]) -> String {
+    let file = &input[..input.len().min(INPUT)];
+    accepted(file).unwrap_or_else(|number| format!("refused {number}\n"))
+}

@@ -1,0 +1,150 @@
+// Ranks, degrees, witnesses and certificates of up to three taps, against trying every polynomial. Sets of points and
+// sets of exponents are numbers here: bit a for the point a, bit u for the exponent u.
+use independent::judgement::{Filter, Judgement, certify, judge};
+use independent::samples::{mask_of, pairs};
+
+// A polynomial: the exponents chosen, the points where it is 1, and its degree; 0 for the zero polynomial.
+struct Polynomial {
+    choice: usize,
+    values: usize,
+    degree: usize,
+}
+
+// Whether bit i of the number is a one.
+fn has(bits: usize, i: usize) -> bool {
+    bits >> i & 1 == 1
+}
+
+// The numbers i below the size for which the condition holds, as bits.
+fn collect(n: usize, condition: impl Fn(usize) -> bool) -> usize {
+    (0..1 << n).filter(|i| condition(*i)).map(|i| 1 << i).sum()
+}
+
+// Every polynomial of n taps.
+fn polynomials(n: usize) -> Vec<Polynomial> {
+    let polynomial = |choice: usize| {
+        let exponents = || (0..1usize << n).filter(move |u| has(choice, *u));
+        let values = collect(n, |a| exponents().filter(|u| u & a == *u).count() % 2 == 1);
+        let degree = exponents().map(|u| u.count_ones() as usize).max().unwrap_or(0);
+        Polynomial { choice, values, degree }
+    };
+    (0..1 << (1 << n)).map(polynomial).collect()
+}
+
+// The polynomials that are zero on the part and not on all of the set.
+fn cancelling(all: &[Polynomial], set: usize, part: usize) -> impl Iterator<Item = &Polynomial> {
+    all.iter().filter(move |g| g.values & part == 0 && g.values & set != 0)
+}
+
+// Whether the target is a sum of some of the vectors, by trying every choice of them.
+fn is_sum(vectors: &[usize], target: usize) -> bool {
+    let sum = |choice: usize| (0..vectors.len()).filter(|i| has(choice, *i)).fold(0, |sum, i| sum ^ vectors[i]);
+    (0..1 << vectors.len()).any(|choice| sum(choice) == target)
+}
+
+// The exponents of weight at most d in graded order.
+fn graded(n: usize, d: usize) -> Vec<usize> {
+    let weights = 0..=d as u32;
+    weights.flat_map(|w| (0..1usize << n).filter(move |u| u.count_ones() == w)).collect()
+}
+
+// The witness by the document's words: p, the kept columns, and the only polynomial on them; 0 where there is none.
+fn witness(all: &[Polynomial], n: usize, set: usize, part: usize, k: usize) -> usize {
+    let exponents = graded(n, k);
+    let row = |a: usize| collect(n, |u| u & a == u && exponents.contains(&u));
+    let rows: Vec<usize> = (0..1 << n).filter(|a| has(part, *a)).map(row).collect();
+    let Some(p) = (0..1 << n).find(|a| has(set, *a) && !is_sum(&rows, row(*a))) else {
+        return 0;
+    };
+    let column = |u: &usize| collect(n, |a| has(part | 1 << p, a) && u & a == *u);
+    let columns: Vec<usize> = exponents.iter().map(column).collect();
+    let kept = (0..columns.len()).filter(|i| !is_sum(&columns[..*i], columns[*i]));
+    let allowed: usize = kept.map(|i| 1 << exponents[i]).sum();
+    let found = all.iter().filter(|g| g.choice & !allowed == 0 && g.values & part == 0 && has(g.values, p));
+    let choices: Vec<usize> = found.map(|g| g.choice).collect();
+    assert_eq!(choices.len(), 1, "one witness only");
+    choices[0]
+}
+
+// The choice of exponents in a witness buffer.
+fn choice_of(buffer: &[u8]) -> usize {
+    assert!(buffer.iter().all(|x| *x <= 1) && buffer[8..].iter().all(|x| *x == 0));
+    (0..8).filter(|u| buffer[*u] == 1).map(|u| 1 << u).sum()
+}
+
+// The mask of the bits.
+fn mask(n: usize, bits: usize) -> Vec<u8> {
+    mask_of(n, |a| has(bits, a))
+}
+
+// Judge's answer, and the choices of the witnesses of side 1 and side 0.
+fn judged(n: usize, set: usize, table: usize) -> (Judgement, [usize; 2]) {
+    let (mut workspace, mut one, mut zero) = (vec![0; 8192], vec![9; 512], vec![9; 512]);
+    let filter = Filter { n, set: &mask(n, set), table: &mask(n, table) };
+    let answer = judge(filter, &mut workspace, &mut one, &mut zero);
+    (answer.expect("accepted"), [choice_of(&one), choice_of(&zero)])
+}
+
+// Demand 3 about ranks, degree, side and witnesses for one set and table.
+fn check_judgement(all: &[Polynomial], n: usize, set: usize, table: usize) {
+    let (judgement, witnesses) = judged(n, set, table);
+    let parts = [set & table, set & !table];
+    let least = parts.map(|part| cancelling(all, set, part).map(|g| g.degree).min());
+    for (d, i) in (0..=n).flat_map(|d| [(d, 0), (d, 1)]) {
+        let differs = judgement.ranks[d][i + 1] != judgement.ranks[d][0];
+        assert_eq!(differs, least[i].is_some_and(|degree| degree <= d), "n {n} set {set:b} table {table:b} d {d}");
+    }
+    let k = least.into_iter().flatten().min().expect("a polynomial cancels");
+    assert_eq!((judgement.degree, judgement.side == 1), (k, least[0] == Some(k)));
+    for i in [0, 1] {
+        assert_eq!(witnesses[i], witness(all, n, set, parts[i], k));
+        let own = cancelling(all, set, parts[i]).find(|g| g.choice == witnesses[i]);
+        assert_eq!(own.map(|g| g.degree), least[i].filter(|degree| *degree == k));
+    }
+}
+
+#[test]
+fn every_set_and_table_of_up_to_three_taps_judged() {
+    for n in [1, 2, 3] {
+        let (all, sets) = (polynomials(n), 1 << (1 << n));
+        (1..sets).for_each(|set| (0..sets).for_each(|table| check_judgement(&all, n, set, table)));
+    }
+}
+
+// The certificate of one set, table, side and degree: refused where a polynomial cancels, else the only sums of kept
+// points of the part.
+fn check_certificate(all: &[Polynomial], n: usize, [set, part]: [usize; 2], side: u8, d: usize) {
+    let table = if side == 1 { part } else { set & !part };
+    let (mut workspace, mut certificate) = (vec![5; 8192], vec![5; 4096]);
+    let filter = Filter { n, set: &mask(n, set), table: &mask(n, table) };
+    let answer = certify(filter, side, d, &mut workspace, &mut certificate);
+    assert!(workspace.iter().all(|word| *word == 0));
+    if cancelling(all, set, part).any(|g| g.degree <= d) {
+        assert_eq!((answer, certificate), (Err(12), vec![5; 4096]));
+        return;
+    }
+    assert_eq!(answer, Ok(()));
+    let row = |a: usize| collect(n, |u| u & a == u && u.count_ones() as usize <= d);
+    let smaller = |q: usize| (0..q).filter(|a| has(part, *a)).map(row).collect::<Vec<_>>();
+    let kept = collect(n, |q| has(part, q) && !is_sum(&smaller(q), row(q)));
+    for (a, words) in certificate.chunks(8).enumerate() {
+        let sum = words[0] as usize;
+        assert!(words[1..].iter().all(|word| *word == 0) && sum & !kept == 0);
+        let wanted = if a < 1 << n && has(set & !part, a) { row(a) } else { 0 };
+        assert_eq!((0..1 << n).filter(|q| has(sum, *q)).fold(0, |total, q| total ^ row(q)), wanted);
+    }
+}
+
+#[test]
+fn certificates_of_up_to_three_taps_at_every_side_and_degree() {
+    for n in [1, 2, 3] {
+        let (all, sets): (_, Vec<usize>) = (polynomials(n), (0..1 << (1 << n)).collect());
+        let inside = |(set, part): &(usize, usize)| *set != 0 && part & !set == 0;
+        let degrees: Vec<usize> = (0..=n).collect();
+        for (set, part) in pairs(&sets, &sets).into_iter().filter(inside) {
+            for (d, side) in pairs(&degrees, &[1, 0]) {
+                check_certificate(&all, n, [set, part], side, d);
+            }
+        }
+    }
+}

@@ -1,0 +1,104 @@
+// Judge, Certify and Hand over of the independent implementation, against the document's cases and every polynomial.
+use independent::judgement::{Filter, Judgement, certify, hand_over, judge};
+use independent::samples::mask_of;
+
+// What Judge answered, and the exponents of the witnesses of side 1 and side 0.
+fn judged(n: usize, set: &[u8], table: &[u8]) -> (Judgement, [Vec<usize>; 2]) {
+    let (mut workspace, mut one, mut zero) = (vec![9; 8192], vec![9; 512], vec![9; 512]);
+    let judgement = judge(Filter { n, set, table }, &mut workspace, &mut one, &mut zero).expect("accepted");
+    assert!(workspace.iter().all(|word| *word == 0));
+    let chosen = |buffer: Vec<u8>| (0..512).filter(|u| buffer[*u] != 0).collect();
+    (judgement, [chosen(one), chosen(zero)])
+}
+
+// The mask of the listed points.
+fn listed(n: usize, points: &[usize]) -> Vec<u8> {
+    mask_of(n, |a| points.contains(&a))
+}
+
+#[test]
+fn starred_case_5() {
+    let (judgement, witnesses) = judged(2, &mask_of(2, |_| true), &listed(2, &[3]));
+    assert_eq!(judgement.ranks[..4], [[1, 1, 1], [3, 1, 3], [4, 1, 3], [0, 0, 0]]);
+    assert_eq!((judgement.degree, judgement.side, judgement.additions), (1, 1, 19));
+    assert_eq!(witnesses, [vec![0, 1], vec![]]);
+}
+
+#[test]
+fn starred_cases_6_and_7() {
+    let (majority, _) = judged(3, &mask_of(3, |_| true), &listed(3, &[3, 5, 6, 7]));
+    assert_eq!((majority.ranks[1], majority.degree, majority.side), ([4, 4, 4], 2, 1));
+    let (even, _) = judged(4, &listed(4, &[0, 3, 5, 6, 9, 10, 12, 15]), &listed(4, &[6, 10, 12, 15]));
+    assert_eq!((even.ranks[1], even.degree), ([4, 4, 4], 2));
+}
+
+#[test]
+fn starred_cases_8_and_9() {
+    let (zero, witnesses) = judged(1, &listed(1, &[0]), &listed(1, &[]));
+    assert_eq!((zero.degree, zero.side, witnesses), (0, 1, [vec![0], vec![]]));
+    let (one, witnesses) = judged(1, &listed(1, &[0]), &listed(1, &[0]));
+    assert_eq!((one.degree, one.side, witnesses), (0, 0, [vec![], vec![0]]));
+}
+
+#[test]
+fn starred_case_10() {
+    let (judgement, witnesses) = judged(2, &listed(2, &[1, 2]), &listed(2, &[1]));
+    assert_eq!([0, 1, 2].map(|d| judgement.ranks[d][0]), [1, 2, 2]);
+    assert_eq!((judgement.degree, &witnesses[0][..]), (1, &[0, 1][..]));
+}
+
+#[test]
+fn judge_checks_in_the_document_order() {
+    let (good, broken, none) = (vec![1; 512], vec![2; 512], vec![0; 512]);
+    let number = |set: &[u8], table: &[u8], n, lengths: [usize; 3]| {
+        let [mut one, mut zero] = [lengths[1], lengths[2]].map(|length| vec![7; length]);
+        let mut workspace = vec![7; lengths[0]];
+        let number = judge(Filter { n, set, table }, &mut workspace, &mut one, &mut zero).err().unwrap_or(0);
+        let untouched = workspace.iter().all(|word| *word == 7) && one.iter().chain(&zero).all(|x| *x == 7);
+        assert_eq!(untouched, number != 0);
+        number
+    };
+    let right = [8192, 512, 512];
+    assert_eq!(number(&broken[1..], &broken, 0, right), 1);
+    assert_eq!(number(&broken, &broken[1..], 0, right), 1);
+    for lengths in [[8191, 512, 512], [8192, 511, 512], [8192, 512, 513]] {
+        assert_eq!(number(&broken, &broken, 0, lengths), 1);
+    }
+    assert_eq!(number(&broken, &broken, 10, right), 4);
+    assert_eq!([(&broken, &none), (&none, &broken)].map(|(s, t)| number(s, t, 9, right)), [8, 8]);
+    assert_eq!([(&none, &good), (&good, &none)].map(|(s, t)| number(s, t, 9, right)), [6, 0]);
+}
+
+#[test]
+fn certify_checks_in_the_document_order() {
+    let (set, table, none) = (mask_of(2, |_| true), listed(2, &[3]), vec![0; 512]);
+    let number = |set: &[u8], n, side, d, length| {
+        let (mut workspace, mut certificate) = (vec![7; 8192], vec![u64::MAX; length]);
+        let number =
+            certify(Filter { n, set, table: &table }, side, d, &mut workspace, &mut certificate).err().unwrap_or(0);
+        assert_eq!(certificate.iter().all(|word| *word == u64::MAX), number != 0);
+        let wanted = if number == 0 || number == 12 { 0 } else { 7 };
+        assert!(workspace.iter().all(|word| *word == wanted));
+        number
+    };
+    assert_eq!(number(&none, 0, 2, 9, 4095), 1);
+    assert_eq!(number(&none, 0, 2, 9, 4096), 4);
+    assert_eq!(number(&vec![2; 512], 2, 2, 9, 4096), 8);
+    assert_eq!(number(&none, 2, 2, 9, 4096), 6);
+    assert_eq!(number(&set, 2, 2, 3, 4096), 10);
+    assert_eq!(number(&set, 2, 2, 2, 4096), 11);
+    assert_eq!([0, 1, 2].map(|d| number(&set, 2, 1, d, 4096)), [0, 12, 12]);
+    assert_eq!([0, 1, 2].map(|d| number(&set, 2, 0, d, 4096)), [0, 0, 12]);
+}
+
+#[test]
+fn hand_over_gives_the_first_bytes_of_the_side() {
+    let (one, zero) = (mask_of(9, |a| a % 3 == 0), mask_of(9, |a| a % 3 == 1));
+    for n in 1..=9 {
+        assert_eq!(hand_over(n, 1, &one, &zero), &one[..1 << n]);
+        assert_eq!(hand_over(n, 0, &one, &zero), &zero[..1 << n]);
+    }
+    let wrong = [hand_over(0, 1, &one, &zero), hand_over(10, 0, &one, &zero), hand_over(3, 2, &one, &zero)];
+    assert_eq!(wrong.concat(), []);
+    assert_eq!([hand_over(3, 1, &one, &zero[1..]), hand_over(3, 0, &one[1..], &zero)].concat(), []);
+}

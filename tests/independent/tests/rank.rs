@@ -1,0 +1,108 @@
+// Rank of the independent implementation, against the document's cases and plain counting.
+use independent::normal_form::weight;
+use independent::random::Random;
+use independent::rank::{Ranking, columns, eliminate, points_of, rank, ranking, row};
+use independent::samples::mask_of;
+use independent::span::{Bits, Span};
+
+// Rank of the mask, with a workspace full of ones.
+fn ranked(mask: &[u8], n: usize, d: usize) -> Result<Ranking, u8> {
+    let mut workspace = vec![u64::MAX; 8192];
+    let answer = rank(mask, n, d, &mut workspace);
+    let wanted = if answer.is_ok() { 0 } else { u64::MAX };
+    assert!(workspace.iter().all(|word| *word == wanted));
+    answer
+}
+
+#[test]
+fn starred_case_4() {
+    assert_eq!(ranked(&mask_of(2, |_| false), 2, 1), Ok(Ranking { rank: 0, additions: 0 }));
+}
+
+#[test]
+fn the_ranks_of_starred_cases_6_and_7() {
+    let cube: Vec<usize> = (0..8).collect();
+    let even = [0, 3, 5, 6, 9, 10, 12, 15];
+    assert_eq!([&cube[..], &[3, 5, 6, 7], &[0, 1, 2, 4]].map(|s| ranking(s, 3, 1).rank), [4, 4, 4]);
+    assert_eq!([&even[..], &[6, 10, 12, 15], &[0, 3, 5, 9]].map(|s| ranking(s, 4, 1).rank), [4, 4, 4]);
+}
+
+#[test]
+fn the_graded_order_rises_by_weight_then_number() {
+    assert_eq!(columns(3, 3), [0, 1, 2, 4, 3, 5, 6, 7]);
+    assert_eq!(columns(9, 1), [0, 1, 2, 4, 8, 16, 32, 64, 128, 256]);
+    let order = columns(9, 9);
+    for n in 1..=9 {
+        let below: Vec<usize> = order.iter().copied().filter(|u| u >> n == 0).collect();
+        assert_eq!(columns(n, n), below);
+        for d in 0..=n {
+            let count = below.iter().filter(|u| weight(**u) <= d).count();
+            assert_eq!(columns(n, d), below[..count]);
+        }
+    }
+}
+
+// The number of different sums of rows of the points, found by adding every choice of them.
+fn different_sums(points: &[usize], d: usize) -> usize {
+    let mut sums = vec![Bits::default()];
+    for a in points {
+        for i in 0..sums.len() {
+            let sum = sums[i].plus(row(d, *a));
+            if !sums.contains(&sum) {
+                sums.push(sum);
+            }
+        }
+    }
+    sums.len()
+}
+
+#[test]
+fn a_rank_counts_the_different_sums() {
+    for n in 1..=3 {
+        for choice in 0..1usize << (1 << n) {
+            let points = points_of(&mask_of(n, |a| choice >> a & 1 == 1));
+            (0..=n).for_each(|d| assert_eq!(different_sums(&points, d), 1 << ranking(&points, n, d).rank));
+        }
+    }
+}
+
+#[test]
+fn additions_stay_within_the_bound() {
+    let mut random = Random(1);
+    for n in 1..=9 {
+        for share in 0..=8 {
+            let points = points_of(&random.mask(n, share));
+            let d = random.below(n + 1);
+            let Ranking { rank: r, additions } = eliminate(&points, n, d);
+            assert!(additions as usize <= points.len() * r - r * (r + 1) / 2);
+        }
+    }
+}
+
+#[test]
+fn a_span_expresses_its_members_by_kept_names() {
+    let mut random = Random(2);
+    for _ in 0..200 {
+        let points = points_of(&random.mask(6, 4));
+        let span: Span = points.iter().map(|a| (*a, row(2, *a))).collect();
+        for a in 0..64 {
+            if let Some(names) = span.express(row(2, a)) {
+                assert!(names.places().all(|q| points.contains(&q)));
+                let sum = names.places().fold(Bits::default(), |sum, q| sum.plus(row(2, q)));
+                assert_eq!(sum, row(2, a));
+            }
+        }
+    }
+}
+
+#[test]
+fn checks_come_in_the_document_order() {
+    let (good, broken) = (mask_of(9, |_| true), vec![2; 512]);
+    assert_eq!(rank(&good[1..], 0, 99, &mut [0; 8192]), Err(1));
+    assert_eq!(rank(&good, 0, 99, &mut [0; 8191]), Err(1));
+    assert_eq!(ranked(&broken, 0, 99), Err(4));
+    assert_eq!(ranked(&broken, 10, 99), Err(4));
+    assert_eq!(ranked(&broken, 9, 99), Err(8));
+    assert_eq!(ranked(&good, 8, 99), Err(8));
+    assert_eq!(ranked(&good, 9, 10), Err(10));
+}

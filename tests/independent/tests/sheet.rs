@@ -1,0 +1,40 @@
+// The printed sheet of the independent implementation, against the document.
+use independent::samples::LISTED_FILES;
+use independent::sheet::sheet;
+
+#[test]
+fn the_printed_sheet() {
+    let lines = [
+        "n 2 points 4 mark 1",
+        "0 1 1 1",
+        "1 3 1 3",
+        "2 4 1 3",
+        "degree 1 side 1 witness 0 1",
+        "side 1 point 0 sum 3",
+        "side 1 point 1 sum 3",
+        "side 1 point 2 sum 3",
+        "side 0 point 3 sum 0",
+        "additions 19",
+    ];
+    assert_eq!(sheet(&[0x02, 0x04, 0x00, 0x01, 0x01, 0x01, 0x01, 0x03]).lines().collect::<Vec<_>>(), lines);
+}
+
+#[test]
+fn a_refusal_is_one_line() {
+    for (file, number) in LISTED_FILES.into_iter().filter(|(_, number)| *number != 0) {
+        assert_eq!(sheet(file), format!("refused {number}\n"));
+    }
+}
+
+#[test]
+fn a_degree_of_zero_has_no_sums() {
+    assert_eq!(sheet(&[1, 1, 0, 0]), "n 1 points 1 mark 1\n0 1 0 1\n1 1 0 1\ndegree 0 side 1 witness 0\nadditions 0\n");
+}
+
+#[test]
+fn input_past_4096_bytes_is_not_looked_at() {
+    let mut input = vec![9; 5000];
+    let long = sheet(&input);
+    input.truncate(4096);
+    assert_eq!(long, sheet(&input));
+}

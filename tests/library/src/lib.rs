@@ -1,0 +1,16 @@
+// Safe calls of the proved static library. Each answers what the library wrote, or the number of its refusal.
+// Lent buffers may have any length: the library judges it.
+mod convert;
+mod degree;
+
+pub use convert::convert;
+pub use degree::degree;
+
+// What a call answered: the written answer for status 0, else the status; a refusal must leave the answer as it was.
+fn outcome<T: PartialEq + std::fmt::Debug>(status: u8, before: T, after: T) -> Result<T, u8> {
+    if status == 0 {
+        return Ok(after);
+    }
+    assert_eq!(before, after, "refusal {status} wrote an answer");
+    Err(status)
+}
