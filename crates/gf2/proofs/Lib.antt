@@ -1,2 +1,20 @@
--- Laws of the field of two elements.
+-- Laws of linear algebra over the field of two elements.
 pub mod Bits
+pub mod Each
+pub mod Dot
+pub mod Chosen
+pub mod Sums
+pub mod Duality
+pub mod Independence
+pub mod Exchange
+pub mod Rank
+pub mod Reducing
+pub mod Paired
+pub mod Points
+pub mod Eliminate
+pub mod Kept
+pub mod Among
+pub mod Combinations
+pub mod Solve
+pub mod Columns
+pub mod Witness
