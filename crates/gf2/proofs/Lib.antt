@@ -1,4 +1,4 @@
--- Laws of linear algebra over the field of two elements.
+-- Laws of linear algebra over the field of two elements, and of rows packed into numbers.
 pub mod Bits
 pub mod Each
 pub mod Dot
@@ -18,3 +18,11 @@ pub mod Combinations
 pub mod Solve
 pub mod Columns
 pub mod Witness
+pub mod Padded
+pub mod Bitwise
+pub mod Words
+pub mod Cuts
+pub mod Packing
+pub mod Table
+pub mod Joined
+pub mod Steps

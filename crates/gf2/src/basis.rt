@@ -1,0 +1,44 @@
+// The kept rows of an elimination, a basis of the span of the rows taken: the first rows of the workspace, each with its
+// pivot.
+ghost use mathlib.Core.Path.{_≡_};
+ghost use Prim.Native.Nat.{_+_, _<_, _≤_};
+ghost use lib.ListN.{length};
+ghost use Rattle.gf2.specs.Elimination.{isZero};
+ghost use Rattle.gf2.specs.Packed.{table, rowOf, Pivots, Reduces, oneMoreUnless};
+use crate::COLUMNS;
+use crate::packed::add_row;
+use crate::packed::entry;
+use crate::packed::pivot;
+
+// Row `row` is reduced by the `kept` rows before it: each of them in whose pivot it has a one is added to it. The result
+// is the number of additions.
+pub fn reduce(ws: &mut [u64], pivots: &[u16], kept: usize, row: usize) -> u32
+    requires { ⌜ (length (now ws) ≡ 8192) × (length (now pivots) ≡ 512) × (kept ≤ 512) × (kept ≤ row) × (row < 1024) × Pivots (now pivots) (table (now ws)) kept ⌝ }
+    ensures { λ r. ⌜ Reduces kept row (table (now (ws .entry))) (table (now (ws .exit))) r × (r ≤ kept) ⌝ }
+{
+    let mut count: u32 = 0;
+    let mut j: usize = 0;
+    while j < kept {
+        let c = pivots[j] as usize;
+        if entry(ws, row, c) {
+            add_row(ws, row, j);
+            count += 1;
+        }
+        j += 1;
+    }
+    count
+}
+
+// Row `kept` becomes a kept row, unless it is zero. The result is the number of kept rows.
+pub fn keep(ws: &[u64], pivots: &mut [u16], kept: usize) -> usize
+    requires { ⌜ (length (now ws) ≡ 8192) × (length (now pivots) ≡ 512) × (kept < 512) × Pivots (now pivots) (table (now ws)) kept ⌝ }
+    ensures { λ r. ⌜ (r ≡ oneMoreUnless (isZero (rowOf (table (now (ws .entry))) kept)) kept) × (r ≤ kept + 1) ⌝ }
+    ensures { λ r. ⌜ Pivots (now (pivots .exit)) (table (now (ws .entry))) r ⌝ }
+{
+    let c = pivot(ws, kept);
+    if c < COLUMNS {
+        pivots[kept] = c as u16;
+        return kept + 1;
+    }
+    kept
+}
