@@ -1,6 +1,8 @@
 -- The columns of a graded order.
+--   columns-all        at degree n the columns are all exponents of n taps
 --   member-columns     the columns are the exponents of n taps up to the degree
 --   columns-distinct   each stands once
+--   length-columns     there are at most 512
 --   columns-prefix     the columns of a degree are the first columns of a higher degree
 use mathlib.Core.Path.{_≡_, refl, ap}
 use mathlib.Core.Logic.{_↔_}
@@ -8,14 +10,15 @@ use mathlib.Core.Bool.{Bool, true, false}
 use mathlib.Core.List.{List, [], _∷_, List·Memᴰ, List·Memᴰ·head, List·Memᴰ·tail}
 use Prim.Native.Nat.{ℕ, suc, _≤_, _<_}
 use native.Mathlib.Omega.{arith}
-use lib.Dec.{leb}
+use lib.Count.{ones-le}
+use lib.Dec.{ltb, leb}
 use lib.ListN.{length, getD, take}
 use lib.Pow.{pow-mono}
 use borrow.Author.Tests.{ltb-true, leb-true, leb-false, lt-ltb, le-leb, lt-leb}
 use Rattle.cube.specs.Numbers.{consIf, filter}
 use Rattle.cube.specs.Cube.{size, weight}
 use Rattle.cube.specs.Order.{Graded, columns}
-use Rattle.cube.proofs.Listed.{member-place, filter-cases, member-filter, filter-filter, Distinct, Inside, distinct-places, distinct-filter, member-all}
+use Rattle.cube.proofs.Listed.{member-place, filter-cases, member-filter, filter-filter, filter-all, length-filter, Distinct, Inside, distinct-places, distinct-filter, member-all}
 
 -- weights never fall along the list
 abbrev Sorted : List ℕ → Type 0
@@ -57,6 +60,10 @@ light-front d (x ∷ xs) h = go (leb (weight x) d) refl (light-front d xs (h .1)
     go true e later = ap (λ l. x ∷ l) later
     go false e later = rw (filter-none (λ u. leb (weight u) d) xs (λ u m. lt-leb (weight u) d (omega (arith, leb-false (weight x) d e, h .0 u m))))
 
+-- at degree n the columns are all exponents of n taps
+pub columns-all : (o : List ℕ) (n : ℕ) → columns o n n ≡ filter (λ u. ltb u (size n)) o
+columns-all o n = filter-all _ _ (λ u m. le-leb (weight u) n (ones-le n u (ltb-true u (size n) (member-filter _ o u .0 m .0))))
+
 module _ {o : List ℕ} (g : Graded o) where
   -- an exponent stands once in the order
   order-distinct : Distinct o
@@ -79,6 +86,11 @@ module _ {o : List ℕ} (g : Graded o) where
   -- each stands once
   pub columns-distinct : (n d : ℕ) → Distinct (columns o n d)
   columns-distinct n d = distinct-filter _ _ (distinct-filter _ o order-distinct)
+
+  -- there are at most 512
+  pub length-columns : (n d : ℕ) → length (columns o n d) ≤ 512
+  length-columns n d =
+      omega (arith, length-filter (λ u. leb (weight u) d) (filter (λ u. ltb u (size n)) o), length-filter (λ u. ltb u (size n)) o, g .long)
 
   -- the columns of a degree are the first columns of a higher degree
   pub columns-prefix : (n d e : ℕ) → d ≤ e → columns o n d ≡ take (length (columns o n d)) (columns o n e)

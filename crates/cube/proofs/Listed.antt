@@ -4,20 +4,23 @@
 --   not-listed        it fails for other numbers
 --   member-place      a member has a place
 --   place-member      what has a place is a member
---   filter-cases        what holds of a list with a first number kept or left out
---   member-filter       the members that a test keeps
---   filter-filter         of two tests the second of which is implied by the first, the first decides
+--   filter-cases      what holds of a list with a first number kept or left out
+--   member-filter     the members that a test keeps
+--   filter-filter     of two tests the second of which is implied by the first, the first decides
+--   filter-all        a test that each passes keeps all
+--   length-filter     no more are kept than there are
+--   filter-snoc       what a test keeps of a list with one number more at its end
 --   Distinct xs       no number stands twice in the list
 --   Inside m xs       each number of the list is below m
 --   distinct-places   a list whose places hold different numbers is distinct
---   distinct-filter     what a test keeps of a distinct list is distinct
+--   distinct-filter   what a test keeps of a distinct list is distinct
 --   count-listed      a distinct list of numbers below m is as long as the count of its numbers
 --   member-all        m distinct numbers below m are all of them
 use mathlib.Core.Path.{_≡_, refl, sym, ap, _∙_}
 use mathlib.Core.Logic.{_↔_, _⊎_, inl, inr}
 use mathlib.Core.Bool.{Bool, true, false, _&&_, _||_, or-true, false≢true}
-use mathlib.Core.List.{List, [], _∷_, List·Memᴰ, List·Memᴰ·head, List·Memᴰ·tail, List·Memᴰ·not-nil, List·Memᴰ·cases-cons}
-use Prim.Native.Nat.{ℕ, zero, suc, _<_}
+use mathlib.Core.List.{List, [], _∷_, _++_, List·Memᴰ, List·Memᴰ·head, List·Memᴰ·tail, List·Memᴰ·not-nil, List·Memᴰ·cases-cons}
+use Prim.Native.Nat.{ℕ, zero, suc, _≤_, _<_}
 use native.Mathlib.Omega.{arith}
 use lib.Dec.{eqb}
 use lib.ListN.{length, getD}
@@ -116,6 +119,31 @@ filter-filter t r (x ∷ xs) h = go (r x) refl (t x) refl (filter-filter t r xs 
     go true e c q later = rw q (ap (consIf c x) later)
     go false e true q later = absurd (false≢true (sym e ∙ h x q))
     go false e false q later = later
+
+-- a test that each passes keeps all
+pub filter-all : (t : ℕ → Bool) (xs : List ℕ) → ((u : ℕ) → List·Memᴰ u xs → t u ≡ true) → filter t xs ≡ xs
+unfolding filter consIf
+filter-all t [] h = refl
+filter-all t (x ∷ xs) h = rw (h x (List·Memᴰ·head refl)) (ap (λ l. x ∷ l) (filter-all t xs (λ u m. h u (List·Memᴰ·tail m))))
+
+-- no more are kept than there are
+pub length-filter : (t : ℕ → Bool) (xs : List ℕ) → length (filter t xs) ≤ length xs
+unfolding filter
+length-filter t [] = omega arith
+length-filter t (x ∷ xs) =
+    let later : length (filter t xs) ≤ length xs = length-filter t xs in
+    filter-cases (λ l. length l ≤ suc (length xs)) t x xs (λ e. omega (arith, later)) (λ e. omega (arith, later))
+
+-- what a test keeps of a list with one number more at its end
+pub filter-snoc : (t : ℕ → Bool) (xs : List ℕ) (x : ℕ) → filter t (xs ++ (x ∷ [])) ≡ filter t xs ++ consIf (t x) x []
+unfolding filter consIf
+filter-snoc t [] x = refl
+filter-snoc t (y ∷ xs) x = go (t y) (filter-snoc t xs x)
+  where
+    go : (b : Bool) → filter t (xs ++ (x ∷ [])) ≡ filter t xs ++ consIf (t x) x []
+        → consIf b y (filter t (xs ++ (x ∷ []))) ≡ consIf b y (filter t xs) ++ consIf (t x) x []
+    go true later = ap (λ l. y ∷ l) later
+    go false later = later
 
 -- no number stands twice
 abbrev pub Distinct : List ℕ → Type 0

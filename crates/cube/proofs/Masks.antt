@@ -1,6 +1,7 @@
 -- The points of masks.
 --   member-from     the numbers from one on
 --   length-from     how many they are
+--   filter-below    what a test keeps of the numbers below a bound, one number more
 --   value-at        a list of values for the numbers below m holds the value of each at its place
 --   markedFrom b i  the numbers from i on that the mask b marks: what a scan has yet to pass
 --   marked-all      from 0 on they are all
@@ -18,7 +19,7 @@
 use mathlib.Core.Path.{_≡_, refl, ap, _∙_}
 use mathlib.Core.Logic.{_↔_, _⊎_, inl, inr, ⊎-elim}
 use mathlib.Core.Bool.{Bool, true, false}
-use mathlib.Core.List.{List, [], _∷_, map, List·Memᴰ, List·Memᴰ·head, List·Memᴰ·tail, List·Memᴰ·not-nil, List·Memᴰ·cases-cons}
+use mathlib.Core.List.{List, [], _∷_, _++_, map, List·Memᴰ, List·Memᴰ·head, List·Memᴰ·tail, List·Memᴰ·not-nil, List·Memᴰ·cases-cons}
 use Prim.Native.Nat.{ℕ, zero, suc, _+_, _-_, _≤_, _<_}
 use native.Mathlib.Omega.{arith}
 use native.Mathlib.Decide.{decLt}
@@ -30,7 +31,7 @@ use borrow.Author.Tests.{eqb-true, leb-true, eq-eqb, ne-eqb, le-leb}
 use Rattle.cube.specs.Numbers.{upFrom, below, consIf, filter}
 use Rattle.cube.specs.Cube.{size}
 use Rattle.cube.specs.Mask.{bitsThenZeros, wellFormed, member, marked, points, byte, mask}
-use Rattle.cube.proofs.Listed.{and-both, Inside, member-filter}
+use Rattle.cube.proofs.Listed.{and-both, Inside, member-filter, filter-snoc}
 
 -- the numbers from one on
 pub member-from : (u k v : ℕ) → List·Memᴰ v (upFrom u k) ↔ ((u ≤ v) × (v < u + k))
@@ -56,6 +57,19 @@ pub length-from : (u k : ℕ) → length (upFrom u k) ≡ k
 unfolding upFrom
 length-from u zero = refl
 length-from u (suc k) = ap suc (length-from (suc u) k)
+
+-- one number more at their end
+from-snoc : (u k : ℕ) → upFrom u (suc k) ≡ upFrom u k ++ ((u + k) ∷ [])
+unfolding upFrom
+from-snoc u zero = let e : u ≡ u + 0 = omega arith in ap (λ x. x ∷ []) e
+from-snoc u (suc k) =
+    let e : suc u + k ≡ u + suc k = omega arith in
+    ap (λ l. u ∷ l) (from-snoc (suc u) k ∙ ap (λ x. upFrom (suc u) k ++ (x ∷ [])) e)
+
+-- what a test keeps of the numbers below a bound, one number more
+pub filter-below : (t : ℕ → Bool) (a : ℕ) → filter t (below (a + 1)) ≡ filter t (below a) ++ consIf (t a) a []
+filter-below t a =
+    ap (λ m. filter t (below m)) (add-one a) ∙ ap (filter t) (from-snoc 0 a ∙ ap (λ x. below a ++ (x ∷ [])) (zero-add a)) ∙ filter-snoc t (below a) a
 
 -- a value for each of them, by place
 values-from : {B : Type 0} (f : ℕ → B) (u k i : ℕ) (d : B) → i < k → getD (map f (upFrom u k)) i d ≡ f (u + i)
