@@ -6,18 +6,20 @@
 --   rank-sums           every sum of the rows is a sum of as many independent sums of them as the rank
 --   rank-le             sums of rows have no greater rank
 --   rank-unique         a list has one rank
+--   rank-alike          rows of points that have the same zero sums have the same rank
 --   rank-equal          sums of rows have the same rank just if all rows are sums of them
 --   equal-point-ranks   the rows of some of the points have the rank of the rows of all just if each point's row is a sum of them
-use mathlib.Core.Path.{_≡_, refl}
+use mathlib.Core.Path.{_≡_, refl, sym, ap, _∙_, subst}
 use mathlib.Core.Bool.{true, false}
 use mathlib.Core.List.{List, [], _∷_, map, List·Memᴰ}
 use mathlib.Core.Logic.{_↔_}
 use Prim.Native.Nat.{ℕ, _≤_}
 use native.Mathlib.Omega.{arith}
-use lib.ListN.{length}
-use Rattle.gf2.specs.Vector.{Row, Each, Choice, chosen, SumOf}
+use lib.ListN.{length, replicate, length-map}
+use Rattle.gf2.specs.Vector.{Row, total, Zero, Each, Choice, chosen, SumOf}
 use Rattle.gf2.specs.Rank.{Independent, Rank}
 use Rattle.gf2.proofs.Each.{each-map, each-of-map}
+use Rattle.gf2.proofs.Chosen.{map-chosen}
 use Rattle.gf2.proofs.Sums.{sum-first, sum-later, sum-trans, sum-of-point, sums-self, sums-chosen}
 use Rattle.gf2.proofs.Duality.{decide-sum}
 use Rattle.gf2.proofs.Independence.{independent-apart}
@@ -77,6 +79,33 @@ rank-le {rs} {ts} R S h =
 -- a list has one rank
 pub rank-unique : {rs : List Row} {r s : ℕ} → Rank rs r → Rank rs s → r ≡ s
 rank-unique {rs} R S = omega (arith, rank-le R S (sums-self rs), rank-le S R (sums-self rs))
+
+module _ (row row′ : ℕ → Row) (alike : (qs : List ℕ) → Zero (total (map row qs)) ↔ Zero (total (map row′ qs))) where
+  -- where some of them are independent, so are the others
+  independent-alike : (qs : List ℕ) → Independent (map row qs) → Independent (map row′ qs)
+  independent-alike qs h c l z =
+      let count : length (map row qs) ≡ length (map row′ qs) = length-map qs row ∙ sym (length-map qs row′) in
+      let zero : Zero (total (chosen c (map row qs))) =
+      subst (λ rs. Zero (total rs)) (map-chosen row c qs) (alike (chosen c qs) .1 (subst (λ rs. Zero (total rs)) (sym (map-chosen row′ c qs)) z)) in
+      h c (l ∙ sym count) zero ∙ ap (λ n. replicate n false) count
+
+-- rows of points that have the same zero sums have the same rank
+pub rank-alike : (row row′ : ℕ → Row) → ((qs : List ℕ) → Zero (total (map row qs)) ↔ Zero (total (map row′ qs)))
+    → (ps : List ℕ) {r : ℕ} → Rank (map row ps) r → Rank (map row′ ps) r
+rank-alike row row′ alike ps R = record {
+  basis = R .basis;
+  independent = moved row row′ alike (R .basis) (R .independent);
+  count = same row′ row (R .basis) ∙ R .count;
+  most = λ c h. omega (arith, same row row′ c, R .most c (moved row′ row (λ qs. (alike qs .1, alike qs .0)) c h));
+}
+  where
+    moved : (f g : ℕ → Row) → ((qs : List ℕ) → Zero (total (map f qs)) ↔ Zero (total (map g qs)))
+        → (c : Choice) → Independent (chosen c (map f ps)) → Independent (chosen c (map g ps))
+    moved f g h c i =
+        subst Independent (map-chosen g c ps) (independent-alike f g h (chosen c ps) (subst Independent (sym (map-chosen f c ps)) i))
+
+    same : (f g : ℕ → Row) (c : Choice) → length (chosen c (map f ps)) ≡ length (chosen c (map g ps))
+    same f g c = sym (ap length (map-chosen f c ps)) ∙ length-map (chosen c ps) f ∙ sym (length-map (chosen c ps) g) ∙ ap length (map-chosen g c ps)
 
 -- sums of rows have the same rank just if all rows are sums of them
 pub rank-equal : {rs ts : List Row} {r s : ℕ} → Rank rs r → Rank ts s → Each (SumOf rs) ts → (r ≡ s) ↔ Each (SumOf ts) rs

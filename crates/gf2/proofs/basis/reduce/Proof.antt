@@ -63,7 +63,8 @@ loop-again c =
       omega arith,
       ap length (w .5) ∙ w .2 .kept .0 ∙ l .loop .inv .2,
       subst (λ n. Reduces (j + 1) row t₀ (table (c .if1 .ws)) n) (sym (w .6))
-          (reduces-next t₀ row j t (l .loop .count) r m true (table (c .if1 .ws)) h (sym (w .0 .taken) ∙ b) (ap table (w .5) ∙ w .2 .ensures ∙ ap (λ v. set t row (add (rowOf t row) v)) same)),
+          (reduces-next t₀ row j t (l .loop .count) r m true (table (c .if1 .ws)) h (sym (w .0 .taken) ∙ b)
+          (ap table (w .5) ∙ w .2 .ensures ∙ ap (λ v. set t row (add (rowOf t row) v)) same)),
     ))
     (λ w. (
       omega arith,
