@@ -1,0 +1,47 @@
+use borrow.Author.Needs.{needs}
+use mathlib.Core.Path.{_≡_}
+use Prim.Native.Nat.{_-_, _/_, _≤_}
+use native.Mathlib.Omega.{arith}
+use lib.Bits.{bitAnd, and-le-l}
+use lib.Pow.{pow-pos, pow-mono}
+use Rattle.cube.specs.Cube.{size}
+use Rattle.matrix.proofs.Splitting.{splits-by}
+use Rattle.matrix.proofs.rows.split_point.Statement.{statement}
+use Rattle.matrix.proofs.rows.split_point.Tie as tie
+
+-- the low part has half the taps
+half : (c : tie.After-size) → c .size .result ≡ size (c .before .args .n / 2)
+half c = c .size .ensures .0 (omega arith)
+
+-- it is not empty
+some : (c : tie.After-size) → 1 ≤ c .size .result
+some c = omega (arith, half c, pow-pos (c .before .args .n / 2))
+
+-- the low bits of a point are at most the point
+less : (c : tie.After-size) → bitAnd (c .before .args .a) (c .size .result - 1) ≤ c .before .args .a
+less c = and-le-l (c .before .args .a) (c .size .result - 1)
+
+sub-t9 : tie.Need-sub-t9
+sub-t9 c =
+    let n = c .before .before .args .n in
+    let h : n / 2 ≤ n = omega arith in
+    omega (arith, c .size2 .ensures .0 (c .before .before .pre .0), half (c .before), pow-mono h)
+
+returns : tie.Need-returns
+returns c =
+    let s = c .before .before in
+    splits-by (s .args .n) (s .args .n / 2) (s .args .a) (c .before .size .result) (c .size2 .result) (half (c .before)) (c .size2 .ensures .0 (s .pre .0)) (omega arith) (s .pre .1)
+
+pub split-point-spec : {M : Type 1} → statement M
+split-point-spec =
+    tie.close
+    (tie.spec
+    (λ c κs. search needs)
+    (λ c. omega (arith, some c))
+    (λ c. less c)
+    (λ c. omega (arith, some c))
+    (λ c. omega (arith, less c, pow-mono (c .before .pre .0)))
+    (λ c κs. search needs)
+    sub-t9
+    (λ c. omega (arith, less (c .before), pow-mono (c .before .before .pre .0)))
+    returns)

@@ -1,0 +1,55 @@
+// The elimination of document 01: the points of a mask are taken in rising number.
+ghost use mathlib.Core.Path.{_≡_};
+ghost use Prim.Native.Nat.{_≤_, _<_};
+ghost use lib.ListN.{length};
+ghost use Rattle.cube.specs.Mask.{points};
+ghost use Rattle.gf2.specs.Packed.{table, rowOf, cut, Pivots};
+ghost use Rattle.matrix.specs.Workspace.{Takes, Eliminates};
+use crate::FIRST_POINT;
+use cube::POINTS;
+use gf2::COLUMNS;
+use gf2::basis::keep;
+use gf2::basis::reduce;
+use gf2::packed::copy_columns;
+
+// The number of rows kept, and of additions made.
+pub struct Taken {
+    pub kept: usize,
+    pub additions: u32,
+}
+
+// The first `columns` columns of row `from` are taken: what is left of them is kept if it is not zero.
+fn take_row(ws: &mut [u64], pivots: &mut [u16], kept: usize, from: usize, columns: usize) -> Taken
+    requires { ⌜ (length (now ws) ≡ 8192) × (length (now pivots) ≡ 512) × (kept < 512) × (from < 1024) × Pivots (now pivots) (table (now ws)) kept ⌝ }
+    ensures { λ r. ⌜ Takes (table (now (ws .entry))) (table (now (ws .exit))) kept (r .kept) (cut columns (rowOf (table (now (ws .entry))) from)) (r .additions) ⌝ }
+    ensures { λ r. ⌜ Pivots (now (pivots .exit)) (table (now (ws .exit))) (r .kept) ⌝ }
+{
+    copy_columns(ws, kept, from, columns);
+    let additions = reduce(ws, pivots, kept, kept);
+    Taken {
+        kept: keep(ws, pivots, kept),
+        additions,
+    }
+}
+
+// The points of `mask` are taken, each with the first `columns` columns of the row in its place. The kept rows are then
+// the first rows of the workspace.
+pub fn eliminate(ws: &mut [u64], mask: &[u8], columns: usize) -> Taken
+    requires { ⌜ (length (now ws) ≡ 8192) × (length (now mask) ≡ 512) ⌝ }
+    ensures { λ r. ⌜ Eliminates (table (now (ws .entry))) (table (now (ws .exit))) columns (points (now (mask .entry))) (r .kept) (r .additions) ⌝ }
+    ensures { λ r. ⌜ (r .kept ≤ 512) × (r .additions ≤ 262144) ⌝ }
+{
+    let mut pivots = [0u16; COLUMNS];
+    let mut kept: usize = 0;
+    let mut additions: u32 = 0;
+    let mut a: usize = 0;
+    while a < POINTS {
+        if mask[a] == 1 {
+            let t = take_row(ws, &mut pivots, kept, FIRST_POINT + a, columns);
+            kept = t.kept;
+            additions += t.additions;
+        }
+        a += 1;
+    }
+    Taken { kept, additions }
+}

@@ -1,0 +1,154 @@
+// The rows of points in the workspace, their columns in an order of the exponents.
+ghost use mathlib.Core.Path.{_≡_};
+ghost use mathlib.Core.Bool.{_&&_};
+ghost use Prim.Native.Nat.{_+_, _≤_, _<_};
+ghost use lib.Dec.{ltb, leb};
+ghost use lib.ListN.{length, set, take, drop};
+ghost use Rattle.cube.specs.Cube.{size as sizeOf, weight as weightOf};
+ghost use Rattle.cube.specs.Order.{Graded, columns};
+ghost use Rattle.gf2.specs.Packed.{table, digit, number};
+ghost use Rattle.matrix.specs.Matrix.{monomials};
+ghost use Rattle.matrix.specs.Workspace.{exponents as exponentsOf, filled, RowsFrom, Splits};
+use crate::FIRST_POINT;
+use cube::Exponent;
+use cube::POINTS;
+use cube::Point;
+use cube::size;
+use cube::weight;
+use cube::within;
+use gf2::COLUMNS;
+use gf2::ROW_WORDS;
+use gf2::WORD_BITS;
+use gf2::packed::common_row;
+
+// An exponent that lies within no point.
+const NO_EXPONENT: u16 = 65535;
+
+// Whether the exponent `u` is one of `points` points and weighs at most `d`.
+fn is_column(u: Exponent, points: usize, d: usize) -> bool
+    ensures { λ r. ⌜ r ≡ (ltb (u .0) points && leb (weightOf (u .0)) d) ⌝ }
+{
+    if (u.0 as usize) < points {
+        return weight(u) as usize <= d;
+    }
+    false
+}
+
+// The number of columns of `n` taps at degree `d`.
+pub fn column_count(order: &[u16; 512], n: usize, d: usize) -> usize
+    requires { ⌜ Graded (now order) × (n ≤ 9) ⌝ }
+    ensures { λ r. ⌜ r ≡ length (columns (now (order .entry)) n d) ⌝ }
+{
+    let points = size(n);
+    let mut count: usize = 0;
+    let mut i: usize = 0;
+    while i < POINTS {
+        if is_column(Exponent(order[i]), points, d) {
+            count += 1;
+        }
+        i += 1;
+    }
+    count
+}
+
+// The exponents of `n` taps in order, then an exponent that lies within no point.
+fn exponents(order: &[u16; 512], n: usize) -> [u16; 512]
+    requires { ⌜ Graded (now order) × (n ≤ 9) ⌝ }
+    ensures { λ r. ⌜ r ≡ exponentsOf (now (order .entry)) n ⌝ }
+{
+    let points = size(n);
+    let mut list = [NO_EXPONENT; COLUMNS];
+    let mut count: usize = 0;
+    let mut i: usize = 0;
+    while i < POINTS {
+        let u = order[i];
+        if (u as usize) < points {
+            list[count] = u;
+            count += 1;
+        }
+        i += 1;
+    }
+    list
+}
+
+// 1 or 0.
+fn bit(b: bool) -> u64
+    ensures { λ r. ⌜ r ≡ digit b ⌝ }
+{
+    if b { 1 } else { 0 }
+}
+
+// The 64 columns of the point `a` from column `from` on, the first in the lowest bit.
+fn row_word(exponents: &[u16; 512], from: usize, a: Point) -> u64
+    requires { ⌜ (length (now exponents) ≡ 512) × (from + 64 ≤ 512) ⌝ }
+    ensures { λ r. ⌜ r ≡ number (monomials (take 64 (drop from (now (exponents .entry)))) (a .0)) ⌝ }
+{
+    let mut w: u64 = 0;
+    let mut i: usize = WORD_BITS;
+    while 0 < i {
+        i -= 1;
+        w = w * 2 + bit(within(Exponent(exponents[from + i]), a));
+    }
+    w
+}
+
+// Row `row` becomes the row of the point `a`.
+fn fill_row(ws: &mut [u64], exponents: &[u16; 512], row: usize, a: Point)
+    requires { ⌜ (length (now ws) ≡ 8192) × (length (now exponents) ≡ 512) × (row < 1024) ⌝ }
+    ensures { λ _. ⌜ table (now (ws .exit)) ≡ set (table (now (ws .entry))) row (monomials (now (exponents .entry)) (a .0)) ⌝ }
+{
+    let mut k: usize = 0;
+    while k < ROW_WORDS {
+        let i = row * ROW_WORDS + k;
+        ws[i] = row_word(exponents, k * WORD_BITS, a);
+        k += 1;
+    }
+}
+
+// Two points whose common bits are a third.
+struct Pair {
+    p: usize,
+    q: usize,
+}
+
+// The high bits of the point `a` with all low ones, and all high ones with its low bits.
+fn split_point(n: usize, a: usize) -> Pair
+    requires { ⌜ (n ≤ 9) × (a < sizeOf n) ⌝ }
+    ensures { λ r. ⌜ Splits n a (r .p) (r .q) ⌝ }
+{
+    let low = size(n / 2);
+    let l = a & (low - 1);
+    Pair {
+        p: a - l + (low - 1),
+        q: size(n) - low + l,
+    }
+}
+
+// The row of the point `a` is put in its place, where those of all points above it stand in theirs: if `a` is the common
+// bits of two of them its row is the common ones of theirs.
+fn fill_point(ws: &mut [u64], exponents: &[u16; 512], n: usize, a: usize)
+    requires { ⌜ (length (now ws) ≡ 8192) × (length (now exponents) ≡ 512) × (n ≤ 9) × (a < sizeOf n) × RowsFrom (now exponents) n (table (now ws)) (a + 1) ⌝ }
+    ensures { λ _. ⌜ table (now (ws .exit)) ≡ set (table (now (ws .entry))) (512 + a) (monomials (now (exponents .entry)) a) ⌝ }
+{
+    let s = split_point(n, a);
+    if a < s.p {
+        if a < s.q {
+            common_row(ws, FIRST_POINT + a, FIRST_POINT + s.p, FIRST_POINT + s.q);
+            return;
+        }
+    }
+    fill_row(ws, exponents, FIRST_POINT + a, Point(a as u16));
+}
+
+// The row of each point of `n` taps at degree `n` is put in its place.
+pub fn fill_rows(ws: &mut [u64], order: &[u16; 512], n: usize)
+    requires { ⌜ (length (now ws) ≡ 8192) × Graded (now order) × (n ≤ 9) ⌝ }
+    ensures { λ _. ⌜ table (now (ws .exit)) ≡ filled (exponentsOf (now (order .entry)) n) n (table (now (ws .entry))) ⌝ }
+{
+    let list = exponents(order, n);
+    let mut a = size(n);
+    while 0 < a {
+        a -= 1;
+        fill_point(ws, &list, n, a);
+    }
+}
