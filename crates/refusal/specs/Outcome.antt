@@ -3,6 +3,7 @@
 --   Check               a test of the inputs, and the refusal where it fails: `test otherwise refusal`
 --   checked cs o        the outcome o after the checks cs: refused by the first broken check, in order
 --   left o old new      a lent buffer at exit: `new` where the outcome accepts, as at entry where it refuses
+--   leftBy o old f      the same, where the accepted values give what is new
 use mathlib.Core.Bool.{Bool, true, false}
 use mathlib.Core.List.{List, [], _∷_}
 use Prim.Native.Nat.{ℕ}
@@ -33,3 +34,8 @@ checked (c ∷ cs) o = after c (checked cs o)
 abbrev pub left : {A : Type 0} {B : Type 0} → Outcome A → B → B → B
 left (refused k) old new = old
 left (accepted a) old new = new
+
+-- the same, where the accepted values give what is new
+abbrev pub leftBy : {A : Type 0} {B : Type 0} → Outcome A → B → (A → B) → B
+leftBy (refused k) old new = old
+leftBy (accepted a) old new = new a

@@ -1,0 +1,3 @@
+-- Laws of the filter file.
+pub mod Marked
+pub mod Answers

@@ -1,0 +1,5 @@
+-- What the bytes of a filter file say, and the bytes that say it.
+pub mod Varint
+pub mod PointList
+pub mod File
+pub mod Read

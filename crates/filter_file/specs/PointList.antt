@@ -1,0 +1,61 @@
+-- Lists of points, document 01, 'Filter file': the count, then the first point itself, then for each later point its difference from the one before.
+--   before p o                    a point before the points that the outcome o draws
+--   pointsFrom m k prev least s   k points below m from the bytes s: the next is prev and a difference of at least `least`
+--   pointList least m s           a list of at least `least` points below m: refused by 2, 3, 5 or 6
+--   differences prev ps           the bytes of the points ps, each as its difference from the one before, the first from prev
+--   encodeList ps                 the bytes of the list ps
+--   mark ps b                     the bytes b with 1 at each of the points ps
+--   markDrawn b o                 the bytes b, marked at the points that the outcome o draws, with the bytes that remain
+--   outcomeOf s b r               what the code's answer r says of the bytes s of a file, where it leaves the bytes b
+use mathlib.Core.List.{List, [], _∷_, _++_}
+use Prim.Native.Nat.{ℕ, zero, suc, _+_, _-_}
+use lib.Dec.{leb, ltb}
+use lib.ListN.{length, drop, set}
+use Rattle.refusal.specs.declared.Refusal.the-variants.{Range, EmptySet}
+use Rattle.refusal.specs.Refusal.{numberOf}
+use Rattle.refusal.specs.Outcome.{Outcome, refused, accepted, _otherwise_, checked}
+use Rattle.filter_file.specs.declared.list.Listed.{Listed}
+use Rattle.filter_file.specs.declared.list.Listed.the-variants.{Next, Refused}
+use Rattle.filter_file.specs.Varint.{Drawn, _leaving_, draw, varint, encodeVarint}
+
+-- a point before those that an outcome draws
+abbrev pub before : ℕ → Outcome (Drawn (List ℕ)) → Outcome (Drawn (List ℕ))
+before p (refused k) = refused k
+before p (accepted (ps leaving rest)) = accepted ((p ∷ ps) leaving rest)
+
+-- k points below m: the next is prev and a difference of at least `least`, those after it differ by at least 1
+unfoldable pub pointsFrom : ℕ → ℕ → ℕ → ℕ → List ℕ → Outcome (Drawn (List ℕ))
+pointsFrom m zero prev least s = accepted ([] leaving s)
+pointsFrom m (suc k) prev least s =
+    draw (varint s) (λ v rest.
+    checked (leb least v otherwise Range ∷ ltb (prev + v) m otherwise Range ∷ []) (before (prev + v) (pointsFrom m k (prev + v) 1 rest)))
+
+-- a list of points below m: its count is at most m and at least `least`, and its first point is any
+unfoldable pub pointList : ℕ → ℕ → List ℕ → Outcome (Drawn (List ℕ))
+pointList least m s =
+    draw (varint s) (λ count rest.
+    checked (leb count m otherwise Range ∷ leb least count otherwise EmptySet ∷ []) (pointsFrom m count 0 0 rest))
+
+-- each point as its difference from the one before
+unfoldable pub differences : ℕ → List ℕ → List ℕ
+differences prev [] = []
+differences prev (p ∷ ps) = encodeVarint (p - prev) ++ differences p ps
+
+-- the count, then the points
+unfoldable pub encodeList : List ℕ → List ℕ
+encodeList ps = encodeVarint (length ps) ++ differences 0 ps
+
+-- 1 at each of the points
+unfoldable pub mark : List ℕ → List ℕ → List ℕ
+mark [] b = b
+mark (p ∷ ps) b = mark ps (set b p 1)
+
+-- bytes that are marked at the points that an outcome draws
+abbrev pub markDrawn : List ℕ → Outcome (Drawn (List ℕ)) → Outcome (Drawn (List ℕ))
+markDrawn b (refused k) = refused k
+markDrawn b (accepted (ps leaving rest)) = accepted (mark ps b leaving rest)
+
+-- what the code's answer says: the place after the list stands for the bytes from there on
+abbrev pub outcomeOf : List ℕ → List ℕ → Listed → Outcome (Drawn (List ℕ))
+outcomeOf s b (Next at) = accepted (b leaving drop at s)
+outcomeOf s b (Refused r) = refused (numberOf r)
