@@ -3,14 +3,19 @@
 --   twoLists n s  what the bytes s say after n
 --   contents s    what the file s says: refused by a number from 2 to 7
 --   encode c      the file that says c
-use mathlib.Core.List.{List, _++_}
-use Prim.Native.Nat.{ℕ}
+--   Bytes s       each number of the list s is a byte
+--   Valid c       c obeys the rules: 1 to 9 taps, S not empty, both lists rising and below N
+use mathlib.Core.Path.{_≡_}
+use mathlib.Core.Bool.{true}
+use mathlib.Core.List.{List, [], _∷_, _++_}
+use Prim.Native.Nat.{ℕ, _≤_, _<_}
+use lib.ListN.{length}
 use Rattle.cube.specs.Numbers.{isEmpty}
 use Rattle.cube.specs.Cube.{taps, size}
 use Rattle.refusal.specs.declared.Refusal.the-variants.{Taps, Surplus}
 use Rattle.refusal.specs.Outcome.{Outcome, accepted, _otherwise_, after}
 use Rattle.filter_file.specs.Varint.{draw, varint, encodeVarint}
-use Rattle.filter_file.specs.PointList.{pointList, encodeList}
+use Rattle.filter_file.specs.PointList.{pointList, RisingFrom, encodeList}
 
 -- what a file says
 pub record Contents : Type 0 where
@@ -31,3 +36,15 @@ contents s = draw (varint s) (λ n rest. after (taps n otherwise Taps) (twoLists
 -- the file that says n, S and f
 unfoldable pub encode : Contents → List ℕ
 encode c = encodeVarint (c .n) ++ (encodeList (c .set) ++ encodeList (c .table))
+
+-- each number is a byte
+abbrev pub Bytes : List ℕ → Type 0
+Bytes [] = Unit {0}
+Bytes (x ∷ s) = (x < 256) × Bytes s
+
+-- what a file may say
+pub record Valid (c : Contents) : Type 0 where
+  pub tapped : taps (c .n) ≡ true
+  pub some : 1 ≤ length (c .set)
+  pub set : RisingFrom 0 (size (c .n)) (c .set)
+  pub table : RisingFrom 0 (size (c .n)) (c .table)

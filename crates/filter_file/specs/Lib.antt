@@ -3,3 +3,5 @@ pub mod Varint
 pub mod PointList
 pub mod File
 pub mod Read
+pub mod Fault
+pub mod Demand1

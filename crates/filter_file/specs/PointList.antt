@@ -2,13 +2,14 @@
 --   before p o                    a point before the points that the outcome o draws
 --   pointsFrom m k prev least s   k points below m from the bytes s: the next is prev and a difference of at least `least`
 --   pointList least m s           a list of at least `least` points below m: refused by 2, 3, 5 or 6
+--   RisingFrom low m ps           the points ps rise, from low on, and are below m
 --   differences prev ps           the bytes of the points ps, each as its difference from the one before, the first from prev
 --   encodeList ps                 the bytes of the list ps
 --   mark ps b                     the bytes b with 1 at each of the points ps
 --   markDrawn b o                 the bytes b, marked at the points that the outcome o draws, with the bytes that remain
 --   outcomeOf s b r               what the code's answer r says of the bytes s of a file, where it leaves the bytes b
 use mathlib.Core.List.{List, [], _∷_, _++_}
-use Prim.Native.Nat.{ℕ, zero, suc, _+_, _-_}
+use Prim.Native.Nat.{ℕ, zero, suc, _+_, _-_, _≤_, _<_}
 use lib.Dec.{leb, ltb}
 use lib.ListN.{length, drop, set}
 use Rattle.refusal.specs.declared.Refusal.the-variants.{Range, EmptySet}
@@ -35,6 +36,11 @@ unfoldable pub pointList : ℕ → ℕ → List ℕ → Outcome (Drawn (List ℕ
 pointList least m s =
     draw (varint s) (λ count rest.
     checked (leb count m otherwise Range ∷ leb least count otherwise EmptySet ∷ []) (pointsFrom m count 0 0 rest))
+
+-- the first point is low or more, each later one is above the one before, and all are below m
+abbrev pub RisingFrom : ℕ → ℕ → List ℕ → Type 0
+RisingFrom low m [] = Unit {0}
+RisingFrom low m (p ∷ ps) = (low ≤ p) × (p < m) × RisingFrom (p + 1) m ps
 
 -- each point as its difference from the one before
 unfoldable pub differences : ℕ → List ℕ → List ℕ
