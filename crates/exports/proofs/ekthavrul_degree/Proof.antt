@@ -1,7 +1,8 @@
 use mathlib.Core.Path.{sym, ap, _∙_}
 use borrow.Author.Needs.{needs}
+use Rattle.refusal.specs.Outcome.{leftBy}
 use Rattle.polynomial.specs.Degree.{outcomeOf}
-use Rattle.exports.specs.Status.{statusOf, answered}
+use Rattle.exports.specs.Status.{statusOf}
 use Rattle.exports.proofs.ekthavrul_degree.Statement.{statement}
 use Rattle.exports.proofs.ekthavrul_degree.Tie as tie
 
@@ -10,14 +11,14 @@ returns c =
     let x = c .before .before in
     let d = x .before .before in
     let e = ap outcomeOf (sym (x .x .given .1)) ∙ d .degree .ensures in
-    (c .number .ensures ∙ ap statusOf e, ap (λ o. answered o (d .before .before .args .degree .now)) e)
+    (c .number .ensures ∙ ap statusOf e, ap (λ o. leftBy o (d .before .before .args .degree .now) (λ k. k)) e)
 
 returns-2 : tie.Need-returns-2
 returns-2 c =
     let x = c .before in
     let d = x .before .before in
     let e = ap outcomeOf (sym (x .d .given .1)) ∙ d .degree .ensures in
-    (ap statusOf e, ap (λ o. answered o (d .before .before .args .degree .now)) e)
+    (ap statusOf e, ap (λ o. leftBy o (d .before .before .args .degree .now) (λ k. k)) e)
 
 pub ekthavrul-degree-spec : {M : Type 1} → statement M
 ekthavrul-degree-spec =

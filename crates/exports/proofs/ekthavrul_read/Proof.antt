@@ -1,0 +1,47 @@
+use mathlib.Core.Path.{_≡_, sym, ap, _∙_}
+use borrow.Author.Needs.{needs}
+use lib.ListN.{length}
+use Rattle.refusal.specs.Outcome.{leftBy}
+use Rattle.filter_file.specs.Read.{readOutcome, outcomeOf}
+use Rattle.exports.specs.Status.{statusOf}
+use Rattle.exports.proofs.Numbers.{n-refused, n-accepted}
+use Rattle.exports.proofs.ekthavrul_read.Statement.{statement}
+use Rattle.exports.proofs.ekthavrul_read.Tie as tie
+
+returns : tie.Need-returns
+returns c =
+    let x = c .before .before in
+    let r = x .before .before .before .before .before .before in
+    let s = r .before .before .before .before .before .before .args in
+    let o = readOutcome (length (s .set .now)) (length (s .table .now)) (s .file .now) in
+    let e = n-refused o _ (ap outcomeOf (sym (x .x .given .1)) ∙ r .read .ensures .answer) in
+    record {
+      status = c .number .ensures ∙ sym (ap statusOf e);
+      set = r .read .ensures .set;
+      table = r .read .ensures .table;
+      taps = sym (ap (λ o. leftBy o (s .n .now) (λ c. c .n)) e);
+    }
+
+returns-2 : tie.Need-returns-2
+returns-2 c =
+    let x = c .before in
+    let r = x .before .before .before .before .before .before in
+    let s = r .before .before .before .before .before .before .args in
+    let o = readOutcome (length (s .set .now)) (length (s .table .now)) (s .file .now) in
+    let e = n-accepted o _ (s .n .now) (ap outcomeOf (sym (x .taps .given .1)) ∙ r .read .ensures .answer) in
+    record { status = e .0; set = r .read .ensures .set; table = r .read .ensures .table; taps = e .1 }
+
+pub ekthavrul-read-spec : {M : Type 1} → statement M
+ekthavrul-read-spec =
+    tie.close
+    (tie.spec
+    (λ c κs. search needs)
+    (λ c. search needs)
+    (λ c κs. search needs)
+    (λ c. search needs)
+    (λ c. search needs)
+    (λ c. search needs)
+    returns
+    (λ c. search needs)
+    (λ c. search needs)
+    returns-2)
