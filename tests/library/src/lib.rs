@@ -2,9 +2,13 @@
 // Lent buffers may have any length: the library judges it.
 mod convert;
 mod degree;
+mod rank;
+mod read;
 
 pub use convert::convert;
 pub use degree::degree;
+pub use rank::rank;
+pub use read::read;
 
 // What a call answered: the written answer for status 0, else the status; a refusal must leave the answer as it was.
 fn outcome<T: PartialEq + std::fmt::Debug>(status: u8, before: T, after: T) -> Result<T, u8> {

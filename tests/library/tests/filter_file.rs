@@ -1,0 +1,170 @@
+// Read of the static library, compared with the independent implementation.
+use independent::filter_file::{Triple, house_number, read};
+use independent::random::Random;
+use independent::samples::{LISTED_FILES, Tally, mask_of, pairs};
+use std::hint::black_box;
+
+// Compares files, and counts the numbers answered, 0 for those read.
+struct Comparison {
+    random: Random,
+    tally: Tally,
+}
+
+impl Comparison {
+    // A comparison that has seen nothing.
+    fn new(seed: u64) -> Comparison {
+        Comparison { random: Random(seed), tally: Tally::default() }
+    }
+
+    // Both Reads of the file into buffers of these lengths full of random bytes: the same answer, the same whole
+    // buffers, and the file as it was.
+    fn lend(&mut self, file: &[u8], lengths: [usize; 2]) -> (u8, [Vec<u8>; 2]) {
+        let entry = lengths.map(|length| self.random.bytes(length));
+        let ([mut set, mut table], [mut plain_set, mut plain_table]) = (entry.clone(), entry.clone());
+        let lent = file.to_vec();
+        let proved = library::read(black_box(&lent), &mut set, &mut table);
+        assert_eq!(proved, read(file, &mut plain_set, &mut plain_table), "Read of {file:02x?}, lengths {lengths:?}");
+        assert_eq!(black_box(&lent), file, "the file after Read");
+        let exit = [set, table];
+        assert_eq!(exit, [plain_set, plain_table], "the buffers after Read of {file:02x?}");
+        assert!(proved.is_ok() || exit == entry, "a refused Read wrote, file {file:02x?}");
+        (self.tally.count(proved), exit)
+    }
+
+    // The file with buffers of the right lengths; the number answered.
+    fn file(&mut self, file: &[u8]) -> u8 {
+        self.lend(file, [512, 512]).0
+    }
+
+    // Copies of the file: cut before the place, with its byte dropped, and with each of the values put in its stead and
+    // before it.
+    fn damage(&mut self, file: &[u8], place: usize, values: &[u8]) {
+        self.file(&file[..place]);
+        self.file(&[&file[..place], &file[place + 1..]].concat());
+        for value in values {
+            self.file(&[&file[..place], &[*value], &file[place + 1..]].concat());
+            self.file(&[&file[..place], &[*value], &file[place..]].concat());
+        }
+    }
+
+    // So many files of each n, damaged at every place.
+    fn damage_files(&mut self, taps: std::ops::RangeInclusive<usize>, count: usize, values: &[u8]) {
+        for n in taps.flat_map(|n| vec![n; count]) {
+            let file = self.random.triple(n).file();
+            (0..file.len()).for_each(|place| self.damage(&file, place, values));
+        }
+    }
+}
+
+// The mask of the points.
+fn mask(n: usize, points: &[usize]) -> Vec<u8> {
+    mask_of(n, |a| points.contains(&a))
+}
+
+#[test]
+fn the_listed_files() {
+    let mut comparison = Comparison::new(1);
+    for (file, number) in LISTED_FILES {
+        assert_eq!(comparison.file(file), number, "{file:02x?}");
+    }
+}
+
+#[test]
+fn valid_files_of_every_n_are_read_in_full() {
+    let mut comparison = Comparison::new(2);
+    for n in 1..=9 {
+        let all: Vec<usize> = (0..1 << n).collect();
+        let mut triples: Vec<Triple> = (0..2000).map(|_| comparison.random.triple(n)).collect();
+        triples.push(Triple { n, set: all.clone(), table: all.clone() });
+        triples.push(Triple { n, set: all.clone(), table: vec![] });
+        triples.extend(all.iter().map(|a| Triple { n, set: vec![*a], table: vec![(1 << n) - 1 - a] }));
+        for triple in triples {
+            let (number, buffers) = comparison.lend(&triple.file(), [512, 512]);
+            assert_eq!(number, 0);
+            assert_eq!(buffers, [mask(n, &triple.set), mask(n, &triple.table)]);
+        }
+    }
+}
+
+#[test]
+fn short_files_damaged_at_every_place_by_every_byte() {
+    let (mut comparison, values): (_, Vec<u8>) = (Comparison::new(3), (0..=255).collect());
+    comparison.damage_files(1..=4, 12, &values);
+    assert_eq!(comparison.tally.numbers(100), [0, 2, 3, 4, 5, 6, 7]);
+}
+
+#[test]
+fn long_files_damaged_at_every_place() {
+    let mut comparison = Comparison::new(4);
+    comparison.damage_files(5..=9, 8, &[0, 1, 2, 0x35, 0x7f, 0x80, 0x81, 0xff]);
+    assert_eq!(comparison.tally.numbers(500), [0, 2, 3, 5, 7]);
+}
+
+// The number in two groups, or with a third one, whatever the shortest form is.
+fn longer_forms(number: usize) -> [Vec<u8>; 2] {
+    let (low, high) = ((number % 128) as u8 + 128, (number / 128) as u8);
+    [vec![low, high], vec![low, high + 128, 1]]
+}
+
+#[test]
+fn every_number_of_a_file_replaced_by_numbers_of_one_and_two_groups() {
+    let mut comparison = Comparison::new(5);
+    for n in (1..=9).flat_map(|n| [n; 6]) {
+        let numbers = comparison.random.triple(n).numbers();
+        let forms: Vec<Vec<u8>> = numbers.iter().copied().map(house_number).collect();
+        for i in 0..numbers.len().min(60) {
+            for number in [0, 1, 2, 9, 126, 127, 128, 129, 255, 256, 511, 512, 513, 16382, 16383] {
+                let [two, three] = longer_forms(number);
+                for form in [house_number(number), two, three] {
+                    comparison.file(&[forms[..i].concat(), form, forms[i + 1..].concat()].concat());
+                }
+            }
+        }
+    }
+    assert_eq!(comparison.tally.numbers(50), [0, 2, 3, 4, 5, 6, 7]);
+}
+
+#[test]
+fn every_file_of_up_to_two_bytes_and_of_six_bytes_that_matter() {
+    let mut comparison = Comparison::new(6);
+    for number in 0..=0xffff_u16 {
+        let bytes = number.to_le_bytes();
+        for length in 0..=2 {
+            comparison.file(&bytes[..length]);
+        }
+    }
+    for code in 0..6usize.pow(6) {
+        let file = [0, 1, 2, 3, 4, 5].map(|i| [0, 1, 2, 3, 0x80, 0x81][code / 6usize.pow(i) % 6]);
+        comparison.file(&file);
+    }
+    assert_eq!(comparison.tally.numbers(10), [0, 2, 3, 4, 5, 6, 7]);
+}
+
+#[test]
+fn random_bytes_and_files_of_4096_bytes_and_longer() {
+    let mut comparison = Comparison::new(7);
+    for n in (1..=9).flat_map(|n| [n; 200]) {
+        let file = comparison.random.triple(n).file();
+        for length in [4095, 4096, 4097, 10_000] {
+            let mut long = comparison.random.bytes(length);
+            comparison.file(&long);
+            long[..file.len()].copy_from_slice(&file);
+            assert_eq!(comparison.file(&long), 7);
+        }
+        let (length, most) = (comparison.random.below(64), comparison.random.pick(&[2, 4, 10, 130, 256]));
+        let bytes: Vec<u8> = (0..length).map(|_| comparison.random.below(most) as u8).collect();
+        comparison.file(&[&[n as u8], &bytes[..]].concat());
+    }
+}
+
+#[test]
+fn buffers_of_wrong_lengths_are_refused_before_the_file_is_read() {
+    let mut comparison = Comparison::new(8);
+    let triples: Vec<Vec<u8>> = (1..=9).map(|n| comparison.random.triple(n).file()).collect();
+    let lengths = [0, 1, 511, 512, 513, 1024];
+    for lent in pairs(&lengths, &lengths).into_iter().map(|(set, table)| [set, table]) {
+        for file in LISTED_FILES.iter().map(|(file, _)| *file).chain(triples.iter().map(|file| &file[..])) {
+            assert_eq!(comparison.lend(file, lent).0 == 1, lent != [512, 512]);
+        }
+    }
+}
