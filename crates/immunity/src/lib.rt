@@ -1,1 +1,2 @@
 // Restricted algebraic immunity: document 01, 'Judgement', and the demands on the whole.
+pub mod hand_over; // hand_over.rt: Hand over, the part of a buffer that holds a witness
