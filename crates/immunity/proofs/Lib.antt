@@ -1,3 +1,11 @@
--- The demands hold, and so do the starred cases.
+-- Laws of judgements, witnesses and certificates; the demands hold, and so do the starred cases.
+pub mod First
+pub mod Parts
+pub mod NewPoint
+pub mod Equal
+pub mod Reported
+pub mod Witnesses
+pub mod Numbers
+pub mod Certificates
 pub mod Demand2
 pub mod Cases

@@ -1,4 +1,12 @@
--- The demands on the whole, and the starred cases of document 01.
+-- Judgements, witnesses, certificates, the demands on the whole, and the starred cases of document 01.
+pub mod Part
+pub mod Annihilator
+pub mod First
+pub mod Witness
+pub mod Judgement
+pub mod Certificate
+pub mod Judge
+pub mod Certify
+pub mod HandOver
 pub mod Demands
 pub mod Cases
-pub mod HandOver

@@ -33,23 +33,33 @@ fn take_row(ws: &mut [u64], pivots: &mut [u16], kept: usize, from: usize, column
 }
 
 // The points of `mask` are taken, each with the first `columns` columns of the row in its place. The kept rows are then
-// the first rows of the workspace.
-pub fn eliminate(ws: &mut [u64], mask: &[u8], columns: usize) -> Taken
-    requires { ⌜ (length (now ws) ≡ 8192) × (length (now mask) ≡ 512) ⌝ }
+// the first rows of the workspace, and `pivots` has the pivot of each.
+pub fn eliminate_with(ws: &mut [u64], pivots: &mut [u16], mask: &[u8], columns: usize) -> Taken
+    requires { ⌜ (length (now ws) ≡ 8192) × (length (now pivots) ≡ 512) × (length (now mask) ≡ 512) ⌝ }
     ensures { λ r. ⌜ Eliminates (table (now (ws .entry))) (table (now (ws .exit))) columns (points (now (mask .entry))) (r .kept) (r .additions) ⌝ }
     ensures { λ r. ⌜ (r .kept ≤ 512) × (r .additions ≤ 262144) ⌝ }
+    ensures { λ r. ⌜ Pivots (now (pivots .exit)) (table (now (ws .exit))) (r .kept) ⌝ }
 {
-    let mut pivots = [0u16; COLUMNS];
     let mut kept: usize = 0;
     let mut additions: u32 = 0;
     let mut a: usize = 0;
     while a < POINTS {
         if mask[a] == 1 {
-            let t = take_row(ws, &mut pivots, kept, FIRST_POINT + a, columns);
+            let t = take_row(ws, pivots, kept, FIRST_POINT + a, columns);
             kept = t.kept;
             additions += t.additions;
         }
         a += 1;
     }
     Taken { kept, additions }
+}
+
+// The same with pivots of its own.
+pub fn eliminate(ws: &mut [u64], mask: &[u8], columns: usize) -> Taken
+    requires { ⌜ (length (now ws) ≡ 8192) × (length (now mask) ≡ 512) ⌝ }
+    ensures { λ r. ⌜ Eliminates (table (now (ws .entry))) (table (now (ws .exit))) columns (points (now (mask .entry))) (r .kept) (r .additions) ⌝ }
+    ensures { λ r. ⌜ (r .kept ≤ 512) × (r .additions ≤ 262144) ⌝ }
+{
+    let mut pivots = [0u16; COLUMNS];
+    eliminate_with(ws, &mut pivots, mask, columns)
 }

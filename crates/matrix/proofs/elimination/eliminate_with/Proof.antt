@@ -3,14 +3,14 @@ use mathlib.Core.List.{List}
 use mathlib.Core.Logic.{⊎-elim}
 use Prim.Native.Nat.{ℕ, _+_, _-_, _*_, _≤_}
 use native.Mathlib.Omega.{arith}
-use lib.ListN.{length, length-replicate}
+use lib.ListN.{length}
 use borrow.Author.Tests.{eq-eqb, ne-eqb}
 use Rattle.gf2.specs.Vector.{Row}
 use Rattle.gf2.specs.Packed.{table, Pivots}
 use Rattle.matrix.specs.Workspace.{Eliminates}
 use Rattle.matrix.proofs.Taking.{pointsTo, eliminates-none, eliminates-yes, eliminates-no}
-use Rattle.matrix.proofs.elimination.eliminate.Statement.{statement}
-use Rattle.matrix.proofs.elimination.eliminate.Tie as tie
+use Rattle.matrix.proofs.elimination.eliminate_with.Statement.{statement}
+use Rattle.matrix.proofs.elimination.eliminate_with.Tie as tie
 
 -- the kept rows with their pivots, and what was eliminated
 abbrev State : List Row → ℕ → List ℕ → List ℕ → List ℕ → ℕ → ℕ → Type 0
@@ -23,18 +23,18 @@ moved : (t : List Row) (columns : ℕ) (ps : List ℕ) {ws ws′ pivots pivots�
 moved t columns ps e f g h s = rw (e, f, g, h) s
 
 abbrev Inv-loop : tie.InvT-loop
-Inv-loop ws₀ mask columns pivots₀ kept₀ additions₀ a₀ ws pivots kept additions a =
+Inv-loop ws₀ pivots₀ mask columns kept₀ additions₀ a₀ ws pivots kept additions a =
     (a ≤ 512) × (kept ≤ a) × (additions ≤ a * 512) × (length ws ≡ 8192) × (length pivots ≡ 512)
     × State (table ws₀) columns (pointsTo mask a) ws pivots kept additions
 
 abbrev μ-loop : tie.MeasureT-loop
-μ-loop ws₀ mask columns pivots₀ kept₀ additions₀ a₀ ws pivots kept additions a = 512 - a
+μ-loop ws₀ pivots₀ mask columns kept₀ additions₀ a₀ ws pivots kept additions a = 512 - a
 
 loop-holds : tie.Need-loop-holds Inv-loop μ-loop
 loop-holds c =
-    let s = c .before .before in
+    let s = c .before .before .before in
     let none = eliminates-none (table (s .args .ws .now)) (s .args .columns) (s .args .mask .now) in
-    (omega arith, omega arith, omega arith, s .pre .0, length-replicate {A = ℕ} 512 0, (λ j h. absurd (omega arith), none))
+    (omega arith, omega arith, omega arith, s .pre .0, s .pre .1, (λ j h. absurd (omega arith), none))
 
 take-row-requires : tie.Need-take-row-requires Inv-loop μ-loop
 take-row-requires c κs =
@@ -44,7 +44,7 @@ take-row-requires c κs =
 loop-again : tie.Need-loop-again Inv-loop μ-loop
 loop-again c =
     let l = c .before .before .before in
-    let s = l .before .before .before in
+    let s = l .before .before .before .before in
     let t = table (s .args .ws .now) in
     let b = s .args .mask .now in
     let a = l .loop .a in
@@ -57,11 +57,11 @@ loop-again c =
     eliminates-yes t (s .args .columns) b (table (l .loop .ws)) (table (w .3 .last .0)) a (l .loop .kept) (l .loop .additions) (r .kept) (r .additions)
     (i .5 .1) (eq-eqb _ _ (w .0 .taken)) (h .0) in (
       omega arith,
-      omega (arith, w .10, h .0 .grows),
-      omega (arith, w .11, h .0 .few),
-      ap length (w .8) ∙ w .3 .kept .0 ∙ i .3,
-      ap length (w .9) ∙ w .3 .kept .1 .0 ∙ i .4,
-      moved t (s .args .columns) (pointsTo b (a + 1)) (w .8) (w .9) (w .10) (w .11) (h .1, e),
+      omega (arith, w .11, h .0 .grows),
+      omega (arith, w .12, h .0 .few),
+      ap length (w .9) ∙ w .3 .kept .0 ∙ i .3,
+      ap length (w .10) ∙ w .3 .kept .1 .0 ∙ i .4,
+      moved t (s .args .columns) (pointsTo b (a + 1)) (w .9) (w .10) (w .11) (w .12) (h .1, e),
     ))
     (λ w. (
       omega arith,
@@ -77,14 +77,14 @@ loop-again c =
 returns : tie.Need-returns Inv-loop μ-loop
 returns c =
     let l = c .before in
-    let s = l .before .before .before in
+    let s = l .before .before .before .before in
     let b = s .args .mask .now in
     let e : l .loop .a ≡ length b = omega arith in
     let all = subst (λ a. Eliminates (table (s .args .ws .now)) (table (l .loop .ws)) (s .args .columns) (pointsTo b a) (l .loop .kept) (l .loop .additions)) e in
-    (all (l .loop .inv .5 .1), omega arith)
+    (all (l .loop .inv .5 .1), (omega arith, l .loop .inv .5 .0))
 
-pub eliminate-spec : {M : Type 1} → statement M
-eliminate-spec =
+pub eliminate-with-spec : {M : Type 1} → statement M
+eliminate-with-spec =
     tie.close
     (tie.spec
     Inv-loop
@@ -92,11 +92,11 @@ eliminate-spec =
     loop-holds
     (λ c. omega arith)
     (λ c. omega arith)
-    (λ c. omega arith)
     take-row-requires
     (λ c. omega arith)
     (λ c. omega arith)
     (λ c. omega arith)
     loop-again
+    (λ c. omega arith)
     (λ c. omega arith)
     returns)

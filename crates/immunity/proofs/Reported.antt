@@ -1,0 +1,118 @@
+-- The degree that is reported.
+--   part-among        the points of a part are points of the set
+--   unequal-differs   a side differs where the ranks are unequal, and nowhere else
+--   equal-just        equal ranks mean that there is no annihilator up to the degree
+--   FirstDiffers ..   k is the first degree at which a side differs, and no annihilator has a smaller degree
+--   reports           a degree is reported, and is that
+use mathlib.Core.Path.{_≡_, refl, sym, _∙_}
+use mathlib.Core.Bool.{Bool, true, false, _||_, or-true, false≢true}
+use mathlib.Core.List.{List, List·Memᴰ}
+use mathlib.Core.Option.{some}
+use mathlib.Core.Logic.{_↔_, _⊎_, inl, inr}
+use Prim.Native.Nat.{ℕ, zero, suc, _+_, _≤_, _<_}
+use native.Mathlib.Omega.{arith}
+use native.Mathlib.Decide.{decLt}
+use lib.Dec.{eqb}
+use lib.ListN.{getD}
+use borrow.Author.Tests.{eqb-true, eq-eqb, ne-eqb, not-false}
+use Rattle.cube.specs.Numbers.{below}
+use Rattle.cube.specs.Cube.{size}
+use Rattle.cube.specs.Mask.{points}
+use Rattle.cube.specs.Order.{Graded}
+use Rattle.cube.proofs.Listed.{Inside, member-filter}
+use Rattle.cube.proofs.Masks.{member-from}
+use Rattle.gf2.specs.Vector.{Each}
+use Rattle.gf2.proofs.Each.{member-each}
+use Rattle.polynomial.specs.Polynomial.{Polynomial, value, UpTo}
+use Rattle.polynomial.proofs.Value.{only, only-value, up-to-all}
+use Rattle.matrix.proofs.Rising.{below-rising}
+use Rattle.immunity.specs.Part.{part}
+use Rattle.immunity.specs.Judgement.{EqualRanks, differs, eitherDiffers, reported}
+use Rattle.immunity.specs.Annihilator.{Annihilator}
+use Rattle.immunity.proofs.First.{First, first-found}
+use Rattle.immunity.proofs.Equal.{equal-none}
+
+-- k is the first degree at which a side differs, and no annihilator has a smaller degree
+pub record FirstDiffers (o : List ℕ) (n : ℕ) (s f : List ℕ) (k : ℕ) : Type 0 where
+  pub within : k ≤ n
+  pub before : (side d : ℕ) → side ≤ 1 → d < k → EqualRanks o n s f side d
+  pub at : (¬ EqualRanks o n s f 1 k) ⊎ (¬ EqualRanks o n s f 0 k)
+  pub least : (side d : ℕ) (p : Polynomial) → side ≤ 1 → Annihilator n p (part side s f) (points s) → UpTo n d p → k ≤ d
+
+-- the points of a part are points of the set
+pub part-among : (side : ℕ) (s f : List ℕ) → Each (λ a. List·Memᴰ a (points s)) (part side s f)
+part-among side s f = member-each (λ a. List·Memᴰ a (points s)) (part side s f) (λ a m. member-filter _ (points s) a .0 m .1)
+
+module _ (o : List ℕ) (n : ℕ) (s f : List ℕ) (d side : ℕ) where
+  -- a side differs where the ranks are unequal
+  pub unequal-differs : (differs o n s f d side ≡ true) ↔ (¬ EqualRanks o n s f side d)
+  unfolding differs
+  unequal-differs = (λ h e. false≢true (rw (eq-eqb _ _ e) at h), λ h. rw (ne-eqb _ _ h))
+
+  -- and nowhere else
+  same-equal : differs o n s f d side ≡ false → EqualRanks o n s f side d
+  unfolding differs
+  same-equal h = eqb-true _ _ (not-false _ h)
+
+-- neither of two tests holds
+neither : (a b : Bool) → (a || b) ≡ false → (a ≡ false) × (b ≡ false)
+neither true b h = absurd (false≢true (sym h))
+neither false b h = (refl, h)
+
+-- one of two tests holds
+either : (a b : Bool) → (a || b) ≡ true → (a ≡ true) ⊎ (b ≡ true)
+either true b h = inl refl
+either false b h = inr h
+
+module _ {o : List ℕ} (g : Graded o) {n : ℕ} (small : n ≤ 9) (s f : List ℕ) where
+  -- equal ranks mean that there is no annihilator up to the degree
+  pub equal-just : (side d : ℕ) → EqualRanks o n s f side d ↔ ((p : Polynomial) → UpTo n d p → ¬ Annihilator n p (part side s f) (points s))
+  equal-just side d = equal-none g small d (points s) (part side s f) (part-among side s f)
+
+  -- where the test of both sides fails, the ranks of both are equal
+  both-equal : (d : ℕ) → eitherDiffers o n s f d ≡ false → (side : ℕ) → side ≤ 1 → EqualRanks o n s f side d
+  both-equal d h zero l = same-equal o n s f d 0 (neither (differs o n s f d 1) (differs o n s f d 0) h .1)
+  both-equal d h (suc zero) l = same-equal o n s f d 1 (neither (differs o n s f d 1) (differs o n s f d 0) h .0)
+  both-equal d h (suc (suc side)) l = absurd (omega arith)
+
+  -- the first degree at which a side differs
+  first-reports : (k : ℕ) → k ≤ n → ((d : ℕ) → d < k → eitherDiffers o n s f d ≡ false)
+      → eitherDiffers o n s f k ≡ true → FirstDiffers o n s f k
+  first-reports k l b h = record {
+    within = l;
+    before = before;
+    at = elim (either (differs o n s f k 1) (differs o n s f k 0) h) [ inl e ↦ inl (unequal-differs o n s f k 1 .0 e) | inr e ↦ inr (unequal-differs o n s f k 0 .0 e) ];
+    least = λ side j p m c u. elim (decLt j k) [ yes i ↦ absurd (equal-just side j .0 (before side j m i) p u c) | no i ↦ omega arith ];
+  }
+    where
+      before : (side d : ℕ) → side ≤ 1 → d < k → EqualRanks o n s f side d
+      before side d m i = both-equal d (b d i) side m
+
+  module _ (inside : Inside (size n) (points s)) (a : ℕ) (point : List·Memᴰ a (points s)) where
+    -- at degree n a side whose part misses a point differs: a polynomial is one just there
+    misses : (side : ℕ) → eqb (getD f a 0) side ≡ false → ¬ EqualRanks o n s f side n
+    misses side h e = equal-just side n .0 e (only n a) (up-to-all n (only n a)) (record {
+      zero = member-each (λ b. value n (only n a) b ≡ false) (part side s f) (λ b m. let k = member-filter _ (points s) b .0 m in
+          only-value n a b (inside b (k .1)) ∙ ne-eqb a b (λ q. false≢true (sym h ∙ rw (← q) at (k .0))));
+      place = a;
+      inside = point;
+      one = only-value n a a (inside a point) ∙ eq-eqb a a refl;
+    })
+
+    -- so some side differs at degree n
+    some-side : eitherDiffers o n s f n ≡ true
+    some-side = go (eqb (getD f a 0) 1) refl
+      where
+        go : (b : Bool) → eqb (getD f a 0) 1 ≡ b → eitherDiffers o n s f n ≡ true
+        go true e = rw (unequal-differs o n s f n 0 .1 (misses 0 (ne-eqb (getD f a 0) 0 (λ q. omega (arith, eqb-true (getD f a 0) 1 e)))), or-true)
+        go false e = rw (unequal-differs o n s f n 1 .1 (misses 1 e))
+
+    -- a degree is reported, and is the first at which a side differs
+    pub reports : (k : ℕ) × (reported o n s f ≡ some k) × FirstDiffers o n s f k
+    unfolding reported
+    reports = go (first-found (eitherDiffers o n s f) (below (n + 1)) (below-rising (n + 1)) n (member-from 0 (n + 1) n .1 (omega arith, omega arith)) some-side)
+      where
+        go : First (eitherDiffers o n s f) (below (n + 1)) (reported o n s f) → (k : ℕ) × (reported o n s f ≡ some k) × FirstDiffers o n s f k
+        go r =
+            let up : (0 ≤ r .place) × (r .place < 0 + (n + 1)) = member-from 0 (n + 1) (r .place) .0 (r .member) in
+            (r .place, r .is, first-reports (r .place) (omega arith) (λ d i. r .before d (member-from 0 (n + 1) d .1 (omega arith, omega arith)) i) (r .passes))

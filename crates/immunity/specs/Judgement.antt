@@ -1,0 +1,119 @@
+-- What Judge answers and leaves. The table is seen through the parts only.
+--   EqualRanks o n s f side d   the set and the side's part have the same rank at degree d
+--   differs o n s f d side   at degree d the rank of the side's part is not that of the set
+--   eitherDiffers ..         one of the two sides differs
+--   noRanks, ranksIf, ranksAt   the ranks of the set, part 1 and part 0 at a degree; all 0 past n
+--   reported o n s f         the first degree at which a side differs, or none
+--   sideAt .. k              the side for the reported degree: 1 if side 1 differs there, else 0
+--   additionsAt              the additions of the three eliminations at a degree
+--   summed t xs              the sum of t over a list
+--   witnessBytes .. side k   the witness buffer of a side for the reported degree: zeros where the side does not differ
+--   Judgement, judged        all of it
+--   setRank j d              the rank of the set at degree d that a judgement gives
+--   partRank j side d        the rank of a side's part
+--   buffer j side            the witness buffer of a side
+use mathlib.Core.Path.{_≡_}
+use mathlib.Core.Bool.{Bool, true, false, not, _||_}
+use mathlib.Core.List.{List, [], _∷_, map}
+use mathlib.Core.Option.{Option, none, some}
+use Prim.Native.Nat.{ℕ, zero, suc, _+_}
+use lib.Dec.{eqb, leb}
+use lib.ListN.{getD}
+use Rattle.cube.specs.Numbers.{below}
+use Rattle.cube.specs.Mask.{points, byte, mask}
+use Rattle.matrix.specs.Matrix.{eliminated, rankOf}
+use Rattle.immunity.specs.Part.{part}
+use Rattle.immunity.specs.declared.judge.Ranks.{Ranks}
+use Rattle.immunity.specs.First.{first}
+use Rattle.immunity.specs.Witness.{witnessAt}
+
+-- the set and the part of the side have the same rank at degree d
+abbrev pub EqualRanks : List ℕ → ℕ → List ℕ → List ℕ → ℕ → ℕ → Type 0
+EqualRanks o n s f side d = rankOf o n d (points s) ≡ rankOf o n d (part side s f)
+
+-- the pair of a side differs at a degree
+unfoldable pub differs : List ℕ → ℕ → List ℕ → List ℕ → ℕ → ℕ → Bool
+differs o n s f d side = not (eqb (rankOf o n d (points s)) (rankOf o n d (part side s f)))
+
+-- one of the two differs
+abbrev pub eitherDiffers : List ℕ → ℕ → List ℕ → List ℕ → ℕ → Bool
+eitherDiffers o n s f d = differs o n s f d 1 || differs o n s f d 0
+
+-- the first degree up to n at which a side differs
+unfoldable pub reported : List ℕ → ℕ → List ℕ → List ℕ → Option ℕ
+unfolding first differs
+reported o n s f = first (eitherDiffers o n s f) (below (n + 1))
+
+-- all 0
+abbrev pub noRanks : Ranks
+noRanks = record { set = 0; one = 0; zero = 0 }
+
+-- the given ranks, or all 0
+unfoldable pub ranksIf : Bool → Ranks → Ranks
+ranksIf true r = r
+ranksIf false r = noRanks
+
+-- the ranks at a degree, all 0 past n
+unfoldable pub ranksAt : List ℕ → ℕ → List ℕ → List ℕ → ℕ → Ranks
+unfolding ranksIf
+ranksAt o n s f d =
+    ranksIf (leb d n) (record { set = rankOf o n d (points s); one = rankOf o n d (part 1 s f); zero = rankOf o n d (part 0 s f) })
+
+-- the side for the reported degree
+unfoldable pub sideAt : List ℕ → ℕ → List ℕ → List ℕ → Option ℕ → ℕ
+unfolding differs
+sideAt o n s f none = 0
+sideAt o n s f (some k) = byte (differs o n s f k 1)
+
+-- the additions at a degree
+unfoldable pub additionsAt : List ℕ → ℕ → List ℕ → List ℕ → ℕ → ℕ
+additionsAt o n s f d =
+    eliminated o n d (points s) .additions + eliminated o n d (part 1 s f) .additions + eliminated o n d (part 0 s f) .additions
+
+-- the sum of a number for each member
+unfoldable pub summed : (ℕ → ℕ) → List ℕ → ℕ
+summed t [] = 0
+summed t (x ∷ xs) = t x + summed t xs
+
+-- the witness buffer of a side for the reported degree
+unfoldable pub witnessBytes : List ℕ → ℕ → List ℕ → List ℕ → ℕ → Option ℕ → List ℕ
+unfolding witnessAt
+witnessBytes o n s f side none = mask (λ u. false)
+witnessBytes o n s f side (some k) = mask (witnessAt o n k (points s) (part side s f))
+
+-- what Judge answers, and leaves in the two witness buffers
+pub record Judgement : Type 0 where
+  pub ranks : List Ranks
+  pub degree : Option ℕ
+  pub side : ℕ
+  pub additions : ℕ
+  pub one : List ℕ
+  pub zero : List ℕ
+
+-- the judgement of a set and a table
+unfoldable pub judged : List ℕ → ℕ → List ℕ → List ℕ → Judgement
+unfolding reported ranksAt sideAt additionsAt summed witnessBytes
+judged o n s f =
+    let k : Option ℕ = reported o n s f in
+    record {
+      ranks = map (ranksAt o n s f) (below 10);
+      degree = k;
+      side = sideAt o n s f k;
+      additions = summed (additionsAt o n s f) (below (n + 1));
+      one = witnessBytes o n s f 1 k;
+      zero = witnessBytes o n s f 0 k;
+    }
+
+-- the rank of the set at a degree
+abbrev pub setRank : Judgement → ℕ → ℕ
+setRank j d = getD (j .ranks) d noRanks .set
+
+-- the rank of a side's part
+abbrev pub partRank : Judgement → ℕ → ℕ → ℕ
+partRank j zero d = getD (j .ranks) d noRanks .zero
+partRank j (suc side) d = getD (j .ranks) d noRanks .one
+
+-- the witness buffer of a side
+unfoldable pub buffer : Judgement → ℕ → List ℕ
+buffer j zero = j .zero
+buffer j (suc side) = j .one
