@@ -1,8 +1,11 @@
 -- The demands on the whole, sentence by sentence, about the definitions that the contracts equate with what the code answers and leaves.
 --   Convertible n b   Convert accepts n taps and the bytes b
 --   Demand2           table and coefficients turn into each other as the algebraic normal form says, and back
---   GivenEqual j side d   the two ranks that the judgement j gives for a side at degree d are equal
---   Demand3 ..        the two ranks, the certificate, the reported degree and the witnesses are what they should be
+--   Judged n s f j             Judge accepts n taps, the set s and the table f, and answers and leaves j
+--   Certified n s f side d c   Certify accepts them at a side and a degree, and writes c
+--   GivenEqual j side d        the two ranks that the judgement j gives for a side at degree d are equal
+--   Judgement3 n s f j         demand 3 of one n, set and table
+--   Demand3                    demand 3
 use mathlib.Core.Path.{_≡_}
 use mathlib.Core.Logic.{_↔_, _⊎_}
 use mathlib.Core.List.{List}
@@ -18,6 +21,8 @@ use Rattle.immunity.specs.Part.{part}
 use Rattle.immunity.specs.Annihilator.{Annihilator}
 use Rattle.immunity.specs.Judgement.{Judgement, setRank, partRank, buffer}
 use Rattle.immunity.specs.Certificate.{Certifies}
+use Rattle.immunity.specs.Judge.{judgeOutcome}
+use Rattle.immunity.specs.Certify.{certifyOutcome}
 
 -- Convert accepts n taps and the bytes b
 abbrev pub Convertible : ℕ → List ℕ → Type 0
@@ -35,17 +40,26 @@ pub record Demand2 : Type 0 where
   -- and back: what Convert leaves it accepts, and turns into what it was lent
   pub back : (n : ℕ) (b : List ℕ) → Convertible n b → Convertible n (convertLeaves n b) × (convertLeaves n (convertLeaves n b) ≡ b)
 
+-- Judge accepts n taps, the set s and the table f, lent buffers of the right lengths, and answers and leaves j
+abbrev pub Judged : ℕ → List ℕ → List ℕ → Judgement → Type 0
+Judged n s f j = judgeOutcome s f n 8192 512 512 ≡ accepted j
+
+-- Certify accepts them at a side and a degree, and writes the certificate c
+abbrev pub Certified : ℕ → List ℕ → List ℕ → ℕ → ℕ → List ℕ → Type 0
+Certified n s f side d c = certifyOutcome s f n side d 8192 4096 ≡ accepted c
+
 -- the two ranks that the judgement gives, of the set and of the side's part, are equal
 abbrev pub GivenEqual : Judgement → ℕ → ℕ → Type 0
 GivenEqual j side d = setRank j d ≡ partRank j side d
 
--- demand 3, of what Judge answers and leaves (j) and the certificate that Certify writes (c) for n taps, the set s and the table f
-pub record Demand3 (n : ℕ) (s f : List ℕ) (j : Judgement) (c : ℕ → ℕ → List ℕ) : Type 0 where
-  -- the ranks are equal exactly when no polynomial up to that degree is zero on the part and one somewhere on S
+-- demand 3, of one n, set and table, and what Judge answers and leaves
+pub record Judgement3 (n : ℕ) (s f : List ℕ) (j : Judgement) : Type 0 where
+  -- the two ranks are equal exactly when no polynomial up to that degree is zero on the part and one somewhere on S
   pub equal : (side d : ℕ) → side ≤ 1 → d ≤ n
       → GivenEqual j side d ↔ ((p : Polynomial) → UpTo n d p → ¬ Annihilator n p (part side s f) (points s))
-  -- where they are equal, the certificate names for each point of S outside the part points of the part whose rows sum to its row, and nothing else
-  pub certified : (side d : ℕ) → side ≤ 1 → d ≤ n → GivenEqual j side d → Certifies graded n d (points s) (part side s f) (c side d)
+  -- where they are equal, Certify's certificate names for each point of S outside the part points of the part whose rows sum to its row, and nothing else
+  pub certified : (side d : ℕ) → side ≤ 1 → d ≤ n → GivenEqual j side d
+      → (c : List ℕ) × Certified n s f side d c × Certifies graded n d (points s) (part side s f) c
   -- a degree is reported
   pub k : ℕ
   pub reported : j .degree ≡ some k
@@ -57,4 +71,9 @@ pub record Demand3 (n : ℕ) (s f : List ℕ) (j : Judgement) (c : ℕ → ℕ �
   pub witness : (side : ℕ) → side ≤ 1 → ¬ GivenEqual j side k
       → HasDegree n (member (buffer j side)) k × Annihilator n (member (buffer j side)) (part side s f) (points s)
   -- every polynomial that is zero on either part and one somewhere on S has at least that degree
-  pub least : (side d : ℕ) (p : Polynomial) → side ≤ 1 → Annihilator n p (part side s f) (points s) → UpTo n d p → k ≤ d
+  pub least : (side d : ℕ) (p : Polynomial) → side ≤ 1 → Annihilator n p (part side s f) (points s) → HasDegree n p d → k ≤ d
+
+-- demand 3
+pub record Demand3 : Type 0 where
+  -- for every n, set and table that Judge accepts
+  pub every : (n : ℕ) (s f : List ℕ) (j : Judgement) → Judged n s f j → Judgement3 n s f j

@@ -1,0 +1,79 @@
+-- What an acceptance of Judge shows, and that Certify then accepts where ranks are equal.
+--   Passed n s f      what the checks show: 1 to 9 taps, a set and a table of 512 bytes that obey the 0/1/0 rule, a point in the set
+--   judge-passed      what Judge accepts has passed its checks, and is judged as the definition says
+--   certify-accepts   Certify then accepts each side and degree at which the ranks are equal, and writes the definition's certificate
+use mathlib.Core.Path.{_≡_, refl, sym, ap, _∙_}
+use mathlib.Core.Bool.{true, false, not, false≢true}
+use mathlib.Core.List.{List, [], _∷_, List·Memᴰ, List·Memᴰ·head}
+use Prim.Native.Nat.{ℕ, _≤_}
+use lib.Dec.{eqb}
+use lib.ListN.{length}
+use borrow.Author.Tests.{eqb-true, eq-eqb, le-leb, not-true}
+use Rattle.cube.specs.Numbers.{isEmpty}
+use Rattle.cube.specs.Cube.{taps}
+use Rattle.cube.specs.Mask.{wellFormed, points}
+use Rattle.cube.specs.BuiltIn.{graded}
+use Rattle.refusal.specs.Outcome.{Outcome, accepted, Check, _otherwise_}
+use Rattle.refusal.specs.declared.Refusal.the-variants.{Length, Taps, Bytes, EmptySet}
+use Rattle.refusal.proofs.Accepted.{check-passed}
+use Rattle.immunity.specs.Judgement.{Judgement, EqualRanks, differs, judged}
+use Rattle.immunity.specs.Certificate.{certificate}
+use Rattle.immunity.specs.Judge.{judgeOutcome}
+use Rattle.immunity.specs.Certify.{certifyOutcome}
+use Rattle.immunity.specs.Demands.{Judged, Certified}
+
+-- what the checks show
+pub record Passed (n : ℕ) (s f : List ℕ) : Type 0 where
+  pub set-long : length s ≡ 512
+  pub table-long : length f ≡ 512
+  pub tapped : taps n ≡ true
+  pub set-formed : wellFormed n s ≡ true
+  pub table-formed : wellFormed n f ≡ true
+  pub some : isEmpty (points s) ≡ false
+
+-- the checks of Judge after those of the lengths
+abbrev later : ℕ → List ℕ → List ℕ → List Check
+later n s f = wellFormed n s otherwise Bytes ∷ wellFormed n f otherwise Bytes ∷ not (isEmpty (points s)) otherwise EmptySet ∷ []
+
+-- what Judge accepts has passed its checks, and is judged as the definition says
+pub judge-passed : (n : ℕ) (s f : List ℕ) (j : Judgement) → Judged n s f j → Passed n s f × (judged graded n s f ≡ j)
+unfolding judgeOutcome
+judge-passed n s f j e =
+    let o : Outcome Judgement = accepted (judged graded n s f) in
+    let set = check-passed (eqb (length s) 512) Length (eqb (length f) 512 otherwise Length ∷ taps n otherwise Taps ∷ later n s f) o j e in
+    let table = check-passed (eqb (length f) 512) Length (taps n otherwise Taps ∷ later n s f) o j (set .1) in
+    let tapped = check-passed (taps n) Taps (later n s f) o j (table .1) in
+    let set-bytes = check-passed (wellFormed n s) Bytes (wellFormed n f otherwise Bytes ∷ not (isEmpty (points s)) otherwise EmptySet ∷ []) o j (tapped .1) in
+    let table-bytes = check-passed (wellFormed n f) Bytes (not (isEmpty (points s)) otherwise EmptySet ∷ []) o j (set-bytes .1) in
+    let point = check-passed (not (isEmpty (points s))) EmptySet [] o j (table-bytes .1) in
+    (record {
+      set-long = eqb-true (length s) 512 (set .0);
+      table-long = eqb-true (length f) 512 (table .0);
+      tapped = tapped .0;
+      set-formed = set-bytes .0;
+      table-formed = table-bytes .0;
+      some = not-true _ (point .0);
+    }, cc (point .1))
+
+-- a list that is not empty has a member
+pub some-member : (xs : List ℕ) → isEmpty xs ≡ false → (a : ℕ) × List·Memᴰ a xs
+unfolding isEmpty
+some-member [] e = absurd (false≢true (sym e))
+some-member (x ∷ xs) e = (x, List·Memᴰ·head refl)
+
+-- Certify accepts each side and degree at which the ranks are equal, and writes the definition's certificate
+pub certify-accepts : (n : ℕ) (s f : List ℕ) → Passed n s f → (side d : ℕ) → side ≤ 1 → d ≤ n → EqualRanks graded n s f side d
+    → Certified n s f side d (certificate graded n s f side d)
+unfolding certifyOutcome differs
+certify-accepts n s f p side d l m e =
+    rw (
+      eq-eqb (length s) 512 (p .set-long),
+      eq-eqb (length f) 512 (p .table-long),
+      p .tapped,
+      p .set-formed,
+      p .table-formed,
+      p .some,
+      le-leb d n m,
+      le-leb side 1 l,
+      eq-eqb _ _ e,
+    )
