@@ -6,13 +6,27 @@ use lib.Count.{ones, onesIn}
 use Rattle.cube.specs.Numbers.{upFrom, consIf, filter, lists, isEmpty}
 use Rattle.cube.specs.Cube.{within}
 use Rattle.cube.specs.Mask.{bitsThenZeros}
+use Rattle.cube.specs.BuiltIn.{graded}
+use Rattle.gf2.specs.Vector.{add, total, dot, unit, chosen}
+use Rattle.gf2.specs.Elimination.{pivot, isZero, count, addIf, reduce, keepUnless, takePoint, takePoints}
+use Rattle.gf2.specs.Solve.{flip, solve}
+use Rattle.gf2.specs.Packed.{number}
 use Rattle.polynomial.specs.Polynomial.{sumBelow, value}
 use Rattle.polynomial.specs.Convert.{values, converted, convertOutcome, convertLeaves}
 use Rattle.polynomial.specs.Degree.{largest, degreeOutcome}
-use Rattle.immunity.specs.Cases.{sameList, isRefused, holdsFact, holdFacts, holds, holdAll, cases}
+use Rattle.matrix.specs.Matrix.{eliminated}
+use Rattle.matrix.specs.Rank.{rankOutcome}
+use Rattle.immunity.specs.Judgement.{differs, judged, buffer}
+use Rattle.immunity.specs.Certificate.{bitOf, certificate}
+use Rattle.immunity.specs.Judge.{judgeOutcome}
+use Rattle.immunity.specs.Certify.{certifyOutcome}
+use Rattle.immunity.specs.Cases.{sameList, isDegree, onAccepted, isRefused, holdsFact, holdFacts, holds, holdAll, cases}
 
 -- each case of the list
 pub cases-hold : holdAll cases ≡ true
-unfolding holdAll cases holds holdFacts holdsFact sameList isRefused convertLeaves convertOutcome converted values degreeOutcome
-    largest value sumBelow xor within ones onesIn bitsThenZeros upFrom filter consIf lists isEmpty
+unfolding holdAll cases holds holdFacts holdsFact sameList isDegree onAccepted isRefused
+    convertLeaves convertOutcome converted values degreeOutcome largest value sumBelow
+    rankOutcome judgeOutcome certifyOutcome judged differs buffer bitOf certificate number
+    eliminated takePoints takePoint keepUnless reduce addIf count isZero pivot solve flip dot unit add total chosen xor
+    graded bitsThenZeros within ones onesIn upFrom filter consIf lists isEmpty
 cases-hold = refl

@@ -45,15 +45,17 @@ judge-passed n s f j e =
     let tapped = check-passed (taps n) Taps (later n s f) o j (table .1) in
     let set-bytes = check-passed (wellFormed n s) Bytes (wellFormed n f otherwise Bytes ∷ not (isEmpty (points s)) otherwise EmptySet ∷ []) o j (tapped .1) in
     let table-bytes = check-passed (wellFormed n f) Bytes (not (isEmpty (points s)) otherwise EmptySet ∷ []) o j (set-bytes .1) in
-    let point = check-passed (not (isEmpty (points s))) EmptySet [] o j (table-bytes .1) in
-    (record {
-      set-long = eqb-true (length s) 512 (set .0);
-      table-long = eqb-true (length f) 512 (table .0);
-      tapped = tapped .0;
-      set-formed = set-bytes .0;
-      table-formed = table-bytes .0;
-      some = not-true _ (point .0);
-    }, cc (point .1))
+    let point = check-passed (not (isEmpty (points s))) EmptySet [] o j (table-bytes .1) in (
+      record {
+        set-long = eqb-true (length s) 512 (set .0);
+        table-long = eqb-true (length f) 512 (table .0);
+        tapped = tapped .0;
+        set-formed = set-bytes .0;
+        table-formed = table-bytes .0;
+        some = not-true _ (point .0);
+      },
+      cc (point .1),
+    )
 
 -- a list that is not empty has a member
 pub some-member : (xs : List ℕ) → isEmpty xs ≡ false → (a : ℕ) × List·Memᴰ a xs
