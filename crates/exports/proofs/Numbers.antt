@@ -1,7 +1,7 @@
 -- What Read's answer, n alone, says of what the file says.
 --   n-refused    an answer that refuses comes of a refusal by its number
 --   n-accepted   an answer that accepts comes of an acceptance with its n
-use mathlib.Core.Path.{_≡_, sym}
+use mathlib.Core.Path.{_≡_}
 use Prim.Native.Nat.{ℕ}
 use native.Mathlib.Omega.{arith}
 use Rattle.refusal.specs.Outcome.{Outcome, refused, accepted, leftBy}

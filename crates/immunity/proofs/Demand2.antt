@@ -1,21 +1,30 @@
 -- Demand 2 holds.
 --   demand2   every sentence of it
-use mathlib.Core.Path.{_≡_, ap, _∙_}
+use mathlib.Core.Path.{_≡_, sym, ap, _∙_, subst}
 use mathlib.Core.List.{List}
 use Prim.Native.Nat.{ℕ, _≤_, _<_}
 use native.Mathlib.Omega.{arith}
 use lib.ListN.{length}
 use lib.Pow.{pow-mono}
 use Rattle.cube.specs.Cube.{size}
-use Rattle.cube.specs.Mask.{member}
+use Rattle.cube.specs.Mask.{member, points}
+use Rattle.cube.specs.BuiltIn.{graded}
 use Rattle.cube.proofs.Taps.{taps-range}
+use Rattle.cube.proofs.BuiltIn.{graded-is-graded}
+use Rattle.gf2.specs.Rank.{Rank}
 use Rattle.refusal.specs.Outcome.{accepted, left}
 use Rattle.polynomial.specs.Polynomial.{Polynomial, value}
 use Rattle.polynomial.specs.Convert.{converted, convertOutcome, convertLeaves}
 use Rattle.polynomial.proofs.Value.{value-same, value-twice}
 use Rattle.polynomial.proofs.Checks.{Passed, checks-pass, checks-passed}
 use Rattle.polynomial.proofs.NormalForm.{length-converted, converted-at, converted-formed, converted-twice}
-use Rattle.immunity.specs.Demands.{Convertible, Demand2}
+use Rattle.matrix.specs.Matrix.{rows}
+use Rattle.matrix.proofs.RankOf.{rank-of, rank-accepted}
+use Rattle.immunity.specs.Part.{part}
+use Rattle.immunity.specs.Judgement.{Judgement, judged, setRank, partRank}
+use Rattle.immunity.specs.Demands.{Convertible, Judged, Demand2}
+use Rattle.immunity.proofs.Given.{set-given, part-given}
+use Rattle.immunity.proofs.Passed.{judge-passed}
 
 module _ (n : ℕ) (b : List ℕ) (e : Convertible n b) where
   -- what Convert has checked
@@ -47,6 +56,24 @@ only : (n : ℕ) (p : Polynomial) (t : List ℕ) → Convertible n t → ((a : �
     → (u : ℕ) → u < size n → member (convertLeaves n t) u ≡ p u
 only n p t e h u l = to-table n t e u l ∙ value-same n (member t) (value n p) u h ∙ value-twice n p u l
 
+-- Judge accepts up to nine taps, and judges as the definition says
+few-taps : (n : ℕ) (s f : List ℕ) (j : Judgement) → Judged n s f j → (n ≤ 9) × (judged graded n s f ≡ j)
+few-taps n s f j e = let (p, is) = judge-passed n s f j e in (taps-range n .0 (p .tapped) .1, is)
+
+-- the rank of the set that Judge gives is that of its matrix
+set-rank : (n : ℕ) (s f : List ℕ) (j : Judgement) → Judged n s f j → (d : ℕ) → d ≤ n → Rank (rows graded n d (points s)) (setRank j d)
+set-rank n s f j e d l =
+    let (small, is) = few-taps n s f j e in
+    subst (Rank (rows graded n d (points s))) (sym (set-given graded n s f d l small) ∙ ap (λ x. setRank x d) is) (rank-of graded n d (points s))
+
+-- and so is that of each part
+part-rank : (n : ℕ) (s f : List ℕ) (j : Judgement) → Judged n s f j → (side d : ℕ) → side ≤ 1 → d ≤ n
+    → Rank (rows graded n d (part side s f)) (partRank j side d)
+part-rank n s f j e side d m l =
+    let (small, is) = few-taps n s f j e in
+    subst (Rank (rows graded n d (part side s f))) (sym (part-given graded n s f d l small side m) ∙ ap (λ x. partRank x side d) is)
+    (rank-of graded n d (part side s f))
+
 -- every sentence of it
 pub demand2 : Demand2
 demand2 = record {
@@ -57,4 +84,7 @@ demand2 = record {
     again n b e,
     leaves n (convertLeaves n b) (again n b e) ∙ ap (converted n) (leaves n b e) ∙ converted-twice n b (passed n b e .formed) (fits n b e),
   );
+  rank = λ b n d r e. rank-accepted b n d 8192 r e graded-is-graded;
+  set-rank = set-rank;
+  part-rank = part-rank;
 }

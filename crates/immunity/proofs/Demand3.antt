@@ -1,21 +1,16 @@
--- Demand 3, and what Judge's answer is made of.
---   set-given       the rank of the set that Judge gives at each degree
---   part-given      that of a side's part
---   equal-given     they are equal exactly where the ranks are
+-- Demand 3 holds.
 --   witness-given   the buffer of a side that differs at the reported degree holds its witness
 --   witness-degree  which has exactly that degree
 --   witness-zeros   the buffer of a side that does not differ there is zero
 --   demand3         every sentence of demand 3
-use mathlib.Core.Path.{_≡_, sym, ap, _∙_}
+use mathlib.Core.Path.{_≡_, sym}
 use mathlib.Core.Bool.{false}
 use mathlib.Core.Logic.{_↔_, inl, inr}
 use mathlib.Core.List.{List, List·Memᴰ}
 use mathlib.Core.Option.{some}
 use Prim.Native.Nat.{ℕ, zero, suc, _≤_}
 use native.Mathlib.Omega.{arith}
-use lib.ListN.{getD}
 use lib.Pow.{pow-mono}
-use borrow.Author.Tests.{le-leb}
 use Rattle.cube.specs.Cube.{size}
 use Rattle.cube.specs.Mask.{member, points, mask}
 use Rattle.cube.specs.Order.{Graded}
@@ -23,44 +18,22 @@ use Rattle.cube.specs.BuiltIn.{graded}
 use Rattle.cube.proofs.Taps.{taps-range}
 use Rattle.cube.proofs.Listed.{Inside}
 use Rattle.cube.proofs.BuiltIn.{graded-is-graded}
-use Rattle.cube.proofs.Masks.{value-at, points-inside, mask-member}
+use Rattle.cube.proofs.Masks.{points-inside, mask-member}
 use Rattle.polynomial.specs.Polynomial.{Polynomial, HasDegree}
 use Rattle.polynomial.proofs.HasDegree.{has-degree}
-use Rattle.matrix.specs.Matrix.{rankOf}
 use Rattle.matrix.proofs.Rising.{points-rising}
-use Rattle.immunity.specs.declared.judge.Ranks.{Ranks}
 use Rattle.immunity.specs.Part.{part}
 use Rattle.immunity.specs.Witness.{IsWitness, witnessAt}
-use Rattle.immunity.specs.Judgement.{EqualRanks, reported, noRanks, ranksIf, ranksAt, witnessBytes, judged, setRank, partRank, buffer}
+use Rattle.immunity.specs.Judgement.{EqualRanks, reported, witnessBytes, judged, buffer}
 use Rattle.immunity.specs.Certificate.{Certifies, certificate}
 use Rattle.immunity.specs.Demands.{Certified, GivenEqual, Judgement3, Demand3}
 use Rattle.immunity.specs.Annihilator.{Annihilator}
 use Rattle.immunity.proofs.Parts.{part-rising}
+use Rattle.immunity.proofs.Given.{equal-given}
 use Rattle.immunity.proofs.Passed.{Passed, judge-passed, some-member, certify-accepts}
 use Rattle.immunity.proofs.Reported.{FirstDiffers, part-among, equal-just, reports}
 use Rattle.immunity.proofs.Witnesses.{is-annihilator, is-same, witness-is, witness-zero}
 use Rattle.immunity.proofs.Certificates.{certificate-is, is-certifies}
-
-module _ (o : List ℕ) (n : ℕ) (s f : List ℕ) (d : ℕ) (up : d ≤ n) (small : n ≤ 9) where
-  -- the ranks that Judge gives at a degree
-  ranks-given : getD (judged o n s f .ranks) d noRanks
-      ≡ record { set = rankOf o n d (points s); one = rankOf o n d (part 1 s f); zero = rankOf o n d (part 0 s f) }
-  unfolding judged ranksAt ranksIf
-  ranks-given = value-at (ranksAt o n s f) 10 d noRanks (omega arith) ∙ rw (le-leb d n up)
-
-  -- that of the set
-  pub set-given : setRank (judged o n s f) d ≡ rankOf o n d (points s)
-  set-given = ap (λ (r : Ranks). r .set) ranks-given
-
-  -- that of a side's part
-  pub part-given : (side : ℕ) → side ≤ 1 → partRank (judged o n s f) side d ≡ rankOf o n d (part side s f)
-  part-given zero l = ap (λ (r : Ranks). r .zero) ranks-given
-  part-given (suc zero) l = ap (λ (r : Ranks). r .one) ranks-given
-  part-given (suc (suc side)) l = absurd (omega arith)
-
-  -- so they are equal exactly where the ranks are
-  pub equal-given : (side : ℕ) → side ≤ 1 → GivenEqual (judged o n s f) side d ↔ EqualRanks o n s f side d
-  equal-given side l = (λ e. sym set-given ∙ e ∙ part-given side l, λ e. set-given ∙ e ∙ sym (part-given side l))
 
 module _ {o : List ℕ} (g : Graded o) {n : ℕ} (small : n ≤ 9) (s f : List ℕ) (side k : ℕ) where
   -- the part of the side

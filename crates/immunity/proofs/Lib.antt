@@ -7,6 +7,7 @@ pub mod Reported
 pub mod Witnesses
 pub mod Numbers
 pub mod Certificates
+pub mod Given
 pub mod Passed
 pub mod Demand2
 pub mod Demand3

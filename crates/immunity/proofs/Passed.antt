@@ -2,7 +2,7 @@
 --   Passed n s f      what the checks show: 1 to 9 taps, a set and a table of 512 bytes that obey the 0/1/0 rule, a point in the set
 --   judge-passed      what Judge accepts has passed its checks, and is judged as the definition says
 --   certify-accepts   Certify then accepts each side and degree at which the ranks are equal, and writes the definition's certificate
-use mathlib.Core.Path.{_≡_, refl, sym, ap, _∙_}
+use mathlib.Core.Path.{_≡_, refl, sym}
 use mathlib.Core.Bool.{true, false, not, false≢true}
 use mathlib.Core.List.{List, [], _∷_, List·Memᴰ, List·Memᴰ·head}
 use Prim.Native.Nat.{ℕ, _≤_}

@@ -1,6 +1,7 @@
 -- The demands on the whole, sentence by sentence, about the definitions that the contracts equate with what the code answers and leaves.
 --   Convertible n b   Convert accepts n taps and the bytes b
---   Demand2           table and coefficients turn into each other as the algebraic normal form says, and back
+--   Ranked b n d r    Rank accepts the points of the mask b at n taps and degree d, lent a workspace of the right length, and answers r
+--   Demand2           table and coefficients turn into each other, and every rank is that of the matrix of points against monomials
 --   Judged n s f j             Judge accepts n taps, the set s and the table f, and answers and leaves j
 --   Certified n s f side d c   Certify accepts them at a side and a degree, and writes c
 --   GivenEqual j side d        the two ranks that the judgement j gives for a side at degree d are equal
@@ -17,6 +18,10 @@ use Rattle.cube.specs.BuiltIn.{graded}
 use Rattle.refusal.specs.Outcome.{accepted}
 use Rattle.polynomial.specs.Polynomial.{Polynomial, value, UpTo, HasDegree}
 use Rattle.polynomial.specs.Convert.{convertOutcome, convertLeaves}
+use Rattle.gf2.specs.Rank.{Rank}
+use Rattle.matrix.specs.declared.rank.Ranked.{Ranked as Answer}
+use Rattle.matrix.specs.Matrix.{rows}
+use Rattle.matrix.specs.Rank.{rankOutcome}
 use Rattle.immunity.specs.Part.{part}
 use Rattle.immunity.specs.Annihilator.{Annihilator}
 use Rattle.immunity.specs.Judgement.{Judgement, setRank, partRank, buffer}
@@ -27,6 +32,14 @@ use Rattle.immunity.specs.Certify.{certifyOutcome}
 -- Convert accepts n taps and the bytes b
 abbrev pub Convertible : ℕ → List ℕ → Type 0
 Convertible n b = convertOutcome n b ≡ accepted tt
+
+-- Rank accepts the points of the mask b at n taps and degree d, lent a workspace of the right length, and answers r
+abbrev pub Ranked : List ℕ → ℕ → ℕ → Answer → Type 0
+Ranked b n d r = rankOutcome b n d 8192 ≡ accepted r
+
+-- Judge accepts n taps, the set s and the table f, lent buffers of the right lengths, and answers and leaves j
+abbrev pub Judged : ℕ → List ℕ → List ℕ → Judgement → Type 0
+Judged n s f j = judgeOutcome s f n 8192 512 512 ≡ accepted j
 
 -- demand 2
 pub record Demand2 : Type 0 where
@@ -39,10 +52,13 @@ pub record Demand2 : Type 0 where
       → (u : ℕ) → u < size n → member (convertLeaves n t) u ≡ p u
   -- and back: what Convert leaves it accepts, and turns into what it was lent
   pub back : (n : ℕ) (b : List ℕ) → Convertible n b → Convertible n (convertLeaves n b) × (convertLeaves n (convertLeaves n b) ≡ b)
-
--- Judge accepts n taps, the set s and the table f, lent buffers of the right lengths, and answers and leaves j
-abbrev pub Judged : ℕ → List ℕ → List ℕ → Judgement → Type 0
-Judged n s f j = judgeOutcome s f n 8192 512 512 ≡ accepted j
+  -- Rank's rank is the rank over the field of two elements of the matrix of the mask's points against the monomials up to the degree
+  pub rank : (b : List ℕ) (n d : ℕ) (r : Answer) → Ranked b n d r → Rank (rows graded n d (points b)) (r .rank)
+  -- so are the ranks that Judge gives: of the set
+  pub set-rank : (n : ℕ) (s f : List ℕ) (j : Judgement) → Judged n s f j → (d : ℕ) → d ≤ n → Rank (rows graded n d (points s)) (setRank j d)
+  -- and of each part
+  pub part-rank : (n : ℕ) (s f : List ℕ) (j : Judgement) → Judged n s f j → (side d : ℕ) → side ≤ 1 → d ≤ n
+      → Rank (rows graded n d (part side s f)) (partRank j side d)
 
 -- Certify accepts them at a side and a degree, and writes the certificate c
 abbrev pub Certified : ℕ → List ℕ → List ℕ → ℕ → ℕ → List ℕ → Type 0
