@@ -1,7 +1,7 @@
 -- What Rank answers.
 --   ranked-is   elimination in the workspace finds the rank and the additions of the definition
---   refuses     a broken check
 --   accepts     no check is broken
+--   refuses     a broken check
 use mathlib.Core.Path.{_≡_, sym, ap, ap₂, _∙_}
 use mathlib.Core.Bool.{true}
 use mathlib.Core.List.{List, map}
@@ -53,13 +53,13 @@ ranked-is {o} g b n d t t′ k m s low w l l′ small h =
     (sym (length-take-le k t′ (omega arith)) ∙ ap length there ∙ length-map (eliminate (row o n d) ps .kept) (padded 512))
     (sym (h .additions) ∙ ap (λ (x : Elimination). x .additions) same ∙ wide .1)
 
--- a broken check
-pub refuses : (b : List ℕ) (n d : ℕ) (ws : List ℕ) (x : Refusal) → rankOutcome b n d (length ws) ≡ refused (numberOf x) → Ranks b n d ws ws (Refused x)
-unfolding workspaceAfter
-refuses b n d ws x e = record { answers = sym e; leaves = sym (ap (λ o. left o ws (zeros (length ws))) e) }
-
 -- no check is broken
 pub accepts : (b : List ℕ) (n d : ℕ) (ws ws′ : List ℕ) (r : Ranked) → rankOutcome b n d (length ws) ≡ accepted (ranked graded n d (points b))
     → r ≡ ranked graded n d (points b) → ws′ ≡ zeros (length ws) → Ranks b n d ws ws′ (Accepted r)
 unfolding workspaceAfter
 accepts b n d ws ws′ r e f z = record { answers = ap accepted f ∙ sym e; leaves = z ∙ sym (ap (λ o. left o ws (zeros (length ws))) e) }
+
+-- a broken check
+pub refuses : (b : List ℕ) (n d : ℕ) (ws : List ℕ) (x : Refusal) → rankOutcome b n d (length ws) ≡ refused (numberOf x) → Ranks b n d ws ws (Refused x)
+unfolding workspaceAfter
+refuses b n d ws x e = record { answers = sym e; leaves = sym (ap (λ o. left o ws (zeros (length ws))) e) }

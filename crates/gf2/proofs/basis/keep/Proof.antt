@@ -16,7 +16,7 @@ returns c =
     let k = s .args .kept in
     let n : length (rowOf t k) ≡ 512 = length-row (s .args .ws .now) k (s .pre .0) (omega arith) in
     let e : c .before .pivot .result ≡ pivot (rowOf t k) = c .before .pivot .ensures in
-    ((rw (pivot-one (rowOf t k) (omega arith)), omega arith), pivots-more (s .args .pivots .now) t k _ (s .pre .3) (omega arith) e (c .if1 .taken))
+    ((rw (pivot-one (rowOf t k) (omega arith)), omega arith), pivots-more (s .args .pivots .now) t k _ (s .pre .3) (omega arith) e (omega arith))
 
 returns-2 : tie.Need-returns-2
 returns-2 c =

@@ -34,13 +34,13 @@ entry-requires : tie.Need-entry-requires Inv-loop μ-loop
 entry-requires c κs =
     let l = c .before .before .before in
     let s = l .before .before .before in
-    (l .loop .inv .2, s .pre .4, s .pre .5 (l .loop .j) (omega arith) .1)
+    (l .loop .inv .2, s .pre .4, omega (arith, s .pre .5 (l .loop .j) (omega arith) .1))
 
 add-row-requires : tie.Need-add-row-requires Inv-loop μ-loop
 add-row-requires c κs =
     let l = c .before .before .before .before .before .before in
     let s = l .before .before .before in
-    (l .loop .inv .2, s .pre .4, omega arith)
+    (l .loop .inv .2, omega arith, omega arith)
 
 loop-again : tie.Need-loop-again Inv-loop μ-loop
 unfolding addIf count
