@@ -20,7 +20,7 @@ use Rattle.refusal.specs.Refusal.{numberOf}
 use Rattle.refusal.specs.Outcome.{Outcome, refused, accepted}
 use Rattle.filter_file.specs.declared.list.Listed.{Listed}
 use Rattle.filter_file.specs.declared.list.Listed.the-variants.{Next, Refused}
-use Rattle.filter_file.specs.Varint.{Drawn, _leaving_}
+use Rattle.filter_file.specs.Drawn.{Drawn, _leaving_}
 use Rattle.filter_file.specs.PointList.{mark, markDrawn, outcomeOf}
 
 -- 1 where a bit is set, else another byte
@@ -65,10 +65,12 @@ mark-mask ps = ext-getD 0 (mark ps (replicate 512 0)) (mask (lists ps)) (long �
     same : (a : ℕ) → a < length (mark ps (replicate 512 0)) → getD (mark ps (replicate 512 0)) a 0 ≡ getD (mask (lists ps)) a 0
     same a h =
         let l : a < 512 = omega (arith, long) in
-        mark-at ps (replicate 512 0) a (rw (length-replicate {A = ℕ} 512 0) l) ∙ rw (getD-replicate {A = ℕ} 512 a 0 0 l, value-at (λ v. byte (lists ps v)) 512 a 0 l) (one (lists ps a))
+        mark-at ps (replicate 512 0) a (rw (length-replicate {A = ℕ} 512 0) l)
+        ∙ rw (getD-replicate {A = ℕ} 512 a 0 0 l, value-at (λ v. byte (lists ps v)) 512 a 0 l) (one (lists ps a))
 
 -- a list that the code refuses is refused
-pub list-refused : (s x : List ℕ) {a : Listed} {r : Refusal} (o : Outcome (Drawn (List ℕ))) → outcomeOf s x a ≡ markDrawn zeros o → a ≡ Refused r → o ≡ refused (numberOf r)
+pub list-refused : (s x : List ℕ) {a : Listed} {r : Refusal} (o : Outcome (Drawn (List ℕ)))
+    → outcomeOf s x a ≡ markDrawn zeros o → a ≡ Refused r → o ≡ refused (numberOf r)
 list-refused s x {a} {r} o e q = go o (sym (ap (outcomeOf s x) q) ∙ e)
   where
     go : (p : Outcome (Drawn (List ℕ))) → refused (numberOf r) ≡ markDrawn zeros p → p ≡ refused (numberOf r)
@@ -80,6 +82,7 @@ pub list-accepted : (s x : List ℕ) {a : Listed} {next : ℕ} (o : Outcome (Dra
     → (ps : List ℕ) × (o ≡ accepted (ps leaving drop next s)) × (x ≡ mask (lists ps))
 list-accepted s x {a} {next} o e q = go o (sym (ap (outcomeOf s x) q) ∙ e)
   where
-    go : (p : Outcome (Drawn (List ℕ))) → accepted (x leaving drop next s) ≡ markDrawn zeros p → (ps : List ℕ) × (p ≡ accepted (ps leaving drop next s)) × (x ≡ mask (lists ps))
+    go : (p : Outcome (Drawn (List ℕ))) → accepted (x leaving drop next s) ≡ markDrawn zeros p
+        → (ps : List ℕ) × (p ≡ accepted (ps leaving drop next s)) × (x ≡ mask (lists ps))
     go (refused k) h = let z : _≡_ {A = ℕ} 0 1 = cc in absurd (omega arith)
     go (accepted (ps leaving rest)) h = (ps, cc, cc (mark-mask ps))

@@ -1,4 +1,5 @@
--- Lists of points, document 01, 'Filter file': the count, then the first point itself, then for each later point its difference from the one before.
+-- Lists of points, document 01, 'Filter file': the count, then the first point itself, then for each later point its
+-- difference from the one before.
 --   before p o                    a point before the points that the outcome o draws
 --   pointsFrom m k prev least s   k points below m from the bytes s: the next is prev and a difference of at least `least`
 --   pointList least m s           a list of at least `least` points below m: refused by 2, 3, 5 or 6
@@ -17,7 +18,8 @@ use Rattle.refusal.specs.Refusal.{numberOf}
 use Rattle.refusal.specs.Outcome.{Outcome, refused, accepted, _otherwise_, checked}
 use Rattle.filter_file.specs.declared.list.Listed.{Listed}
 use Rattle.filter_file.specs.declared.list.Listed.the-variants.{Next, Refused}
-use Rattle.filter_file.specs.Varint.{Drawn, _leaving_, draw, varint, encodeVarint}
+use Rattle.filter_file.specs.Drawn.{Drawn, _leaving_, draw}
+use Rattle.filter_file.specs.Varint.{varint, encodeVarint}
 
 -- a point before those that an outcome draws
 abbrev pub before : ℕ → Outcome (Drawn (List ℕ)) → Outcome (Drawn (List ℕ))

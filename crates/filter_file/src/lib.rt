@@ -1,5 +1,6 @@
 // The filter file: document 01, 'Filter file'.
-// A file is n, the list of the points of S, and the list of the points where f is 1; each is made of house numbers, here called varints.
+// A file is n, the list of the points of S and the list of the points where f is 1, each made of house numbers, here
+// called varints.
 mod varint; // varint.rt: the number at a place of a file
 mod list; // list.rt: the list of points at a place of a file
 pub mod read; // read.rt: Read

@@ -1,4 +1,5 @@
-// A list of points at a place of a file: its count, then the first point itself, then for each later point its difference from the one before.
+// A list of points at a place of a file: its count, then the first point itself, then for each later point its
+// difference from the one before.
 ghost use mathlib.Core.Path.{_≡_};
 ghost use Prim.Native.Nat.{_≤_};
 ghost use lib.ListN.{length, drop};
@@ -16,7 +17,8 @@ pub enum Listed {
 // Draws `count` points below `size` from the place `from` on, and sets each in `out`.
 fn points_at(file: &[u8], from: usize, count: usize, size: usize, out: &mut [u8]) -> Listed
     requires { ⌜ size ≤ length (now out) ⌝ }
-    ensures { λ r. ⌜ outcomeOf (now (file .entry)) (now (out .exit)) r ≡ markDrawn (now (out .entry)) (pointsFrom size count 0 0 (drop from (now (file .entry)))) ⌝ }
+    ensures { λ r. ⌜ outcomeOf (now (file .entry)) (now (out .exit)) r
+        ≡ markDrawn (now (out .entry)) (pointsFrom size count 0 0 (drop from (now (file .entry)))) ⌝ }
 {
     let mut left = count;
     let mut at = from;
@@ -48,7 +50,8 @@ fn points_at(file: &[u8], from: usize, count: usize, size: usize, out: &mut [u8]
 // Draws a list of at least `least` points below `size` from the place `at` on, and sets each in `out`.
 pub fn list_at(file: &[u8], at: usize, least: usize, size: usize, out: &mut [u8]) -> Listed
     requires { ⌜ size ≤ length (now out) ⌝ }
-    ensures { λ r. ⌜ outcomeOf (now (file .entry)) (now (out .exit)) r ≡ markDrawn (now (out .entry)) (pointList least size (drop at (now (file .entry)))) ⌝ }
+    ensures { λ r. ⌜ outcomeOf (now (file .entry)) (now (out .exit)) r
+        ≡ markDrawn (now (out .entry)) (pointList least size (drop at (now (file .entry)))) ⌝ }
 {
     match varint_at(file, at) {
         Varint::Refused(r) => Listed::Refused(r),

@@ -30,17 +30,19 @@ fn copy(from: &[u8], to: &mut [u8])
     }
 }
 
-// Reads the two lists from the place `at` on. Their points are set in masks of its own, which are copied once the file is known to be good.
+// Reads the two lists from the place `at` on. Their points are set in masks of its own, which are copied once the file
+// is known to be good.
 fn read_lists(file: &[u8], at: usize, n: usize, set: &mut [u8], table: &mut [u8]) -> Reading
     requires { ⌜ (n ≤ 9) × ((length (now set) ≡ 512) × (length (now table) ≡ 512)) ⌝ }
-    ensures { λ r. ⌜ Reads (twoLists n (drop at (now (file .entry)))) r (now (set .entry)) (now (set .exit)) (now (table .entry)) (now (table .exit)) ⌝ }
+    ensures { λ r. ⌜ Reads (twoLists n (drop at (now (file .entry)))) r
+        (now (set .entry)) (now (set .exit)) (now (table .entry)) (now (table .exit)) ⌝ }
 {
     let size = cube::size(n);
-    let mut points = [0u8; 512];
+    let mut points = [0u8; POINTS];
     match list_at(file, at, 1, size, &mut points) {
         Listed::Refused(r) => Reading::Refused(r),
         Listed::Next(middle) => {
-            let mut ones = [0u8; 512];
+            let mut ones = [0u8; POINTS];
             match list_at(file, middle, 0, size, &mut ones) {
                 Listed::Refused(r) => Reading::Refused(r),
                 Listed::Next(end) => {
@@ -58,7 +60,8 @@ fn read_lists(file: &[u8], at: usize, n: usize, set: &mut [u8], table: &mut [u8]
 
 // Reads a filter file: the answer is n, and each buffer is 1 at the points of its list, 0 elsewhere.
 pub fn read(file: &[u8], set: &mut [u8], table: &mut [u8]) -> Reading
-    ensures { λ r. ⌜ Reads (readOutcome (length (now (set .entry))) (length (now (table .entry))) (now (file .entry))) r (now (set .entry)) (now (set .exit)) (now (table .entry)) (now (table .exit)) ⌝ }
+    ensures { λ r. ⌜ Reads (readOutcome (length (now (set .entry))) (length (now (table .entry))) (now (file .entry))) r
+        (now (set .entry)) (now (set .exit)) (now (table .entry)) (now (table .exit)) ⌝ }
 {
     if set.len() != POINTS {
         return Reading::Refused(Refusal::Length);

@@ -2,11 +2,13 @@ use borrow.Author.Needs.{needs}
 use borrow.Author.Tests.{le-leb, lt-leb}
 use mathlib.Core.Path.{_≡_, sym, _∙_}
 use mathlib.Core.List.{[], _∷_}
+use native.Mathlib.Omega.{arith}
 use lib.Dec.{leb}
 use lib.ListN.{drop}
 use Rattle.refusal.specs.declared.Refusal.the-variants.{Range, EmptySet}
 use Rattle.refusal.specs.Outcome.{_otherwise_, checked}
-use Rattle.filter_file.specs.Varint.{draw, outcomeOf}
+use Rattle.filter_file.specs.Drawn.{draw}
+use Rattle.filter_file.specs.Varint.{outcomeOf}
 use Rattle.filter_file.specs.PointList.{pointsFrom, pointList, markDrawn}
 use Rattle.filter_file.proofs.list.list_at.Statement.{statement}
 use Rattle.filter_file.proofs.list.list_at.Tie as tie
@@ -30,10 +32,16 @@ known : (c : tie.After-value) →
 known c = asked (c .before .before) ∙ rw (c .value .given .1)
 
 returns : tie.Need-returns
-returns c = sym (known (c .before .before) ∙ rw (lt-leb _ _ (c .if1 .taken)))
+returns c =
+    let v = c .before .before in
+    let a = v .before .before .before .before .before .args in
+    sym (known v ∙ rw (lt-leb (v .value .given .0 .0) (a .size) (omega arith)))
 
 returns-2 : tie.Need-returns-2
-returns-2 c = sym (known (c .before .before .before) ∙ rw (le-leb _ _ (c .before .if1 .left), lt-leb _ _ (c .if2 .taken)))
+returns-2 c =
+    let v = c .before .before .before in
+    let a = v .before .before .before .before .before .args in
+    sym (known v ∙ rw (le-leb (v .value .given .0 .0) (a .size) (omega arith), lt-leb (a .least) (v .value .given .0 .0) (omega arith)))
 
 returns-3 : tie.Need-returns-3
 returns-3 c = sym (asked (c .before .before .before) ∙ rw (c .before .r .given .1))
@@ -41,8 +49,9 @@ returns-3 c = sym (asked (c .before .before .before) ∙ rw (c .before .r .given
 returns-4 : tie.Need-returns-4
 returns-4 c =
     let p = c .before .before in
-    let e = p .before .before in
-    rw (known (e .before .before .before), le-leb _ _ (e .before .if1 .left), le-leb _ _ (e .if2 .left)) (p .points-at .ensures)
+    let v = p .before .before .before .before .before in
+    let a = v .before .before .before .before .before .args in
+    rw (known v, le-leb (v .value .given .0 .0) (a .size) (omega arith), le-leb (a .least) (v .value .given .0 .0) (omega arith)) (p .points-at .ensures)
 
 pub list-at-spec : {M : Type 1} → statement M
 list-at-spec =

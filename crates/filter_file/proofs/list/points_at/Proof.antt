@@ -8,7 +8,8 @@ use lib.Dec.{leb, ltb}
 use lib.ListN.{length, drop, set, length-set}
 use Rattle.refusal.specs.declared.Refusal.the-variants.{Range}
 use Rattle.refusal.specs.Outcome.{Outcome, refused, accepted, _otherwise_, checked}
-use Rattle.filter_file.specs.Varint.{Drawn, _leaving_, draw, varint, outcomeOf}
+use Rattle.filter_file.specs.Drawn.{Drawn, _leaving_, draw}
+use Rattle.filter_file.specs.Varint.{varint, outcomeOf}
 use Rattle.filter_file.specs.PointList.{before, pointsFrom, mark, markDrawn}
 use Rattle.filter_file.proofs.list.points_at.Statement.{statement}
 use Rattle.filter_file.proofs.list.points_at.Tie as tie
@@ -54,7 +55,8 @@ asked : (c : tie.After-varint-at Inv-loop μ-loop) →
 asked c =
     let l = c .before .before in
     let a = l .before .before .before .args in
-    l .loop .inv .same ∙ rw (turn (a .size) (l .loop .left) (l .loop .prev) (l .loop .least) (drop (l .loop .at) (a .file .now)) (c .before .loop-test .taken), c .varint-at .ensures)
+    let next = turn (a .size) (l .loop .left) (l .loop .prev) (l .loop .least) (drop (l .loop .at) (a .file .now)) (c .before .loop-test .taken) in
+    l .loop .inv .same ∙ rw (next, c .varint-at .ensures)
 
 returns : tie.Need-returns Inv-loop μ-loop
 returns c = sym (asked (c .before .before .before) ∙ rw (c .before .r .given .1))
@@ -71,25 +73,28 @@ known : (c : tie.After-value Inv-loop μ-loop) →
 known c = asked (c .before .before) ∙ rw (c .value .given .1)
 
 returns-2 : tie.Need-returns-2 Inv-loop μ-loop
-returns-2 c = sym (known (c .before .before) ∙ rw (lt-leb _ _ (c .if1 .taken)))
+returns-2 c =
+    let v = c .before .before in
+    let l = v .before .before .before .before in
+    sym (known v ∙ rw (lt-leb (l .loop .least) (v .value .given .0 .0) (omega arith)))
 
 returns-3 : tie.Need-returns-3 Inv-loop μ-loop
 returns-3 c =
     let v = c .before .before .before in
     let l = v .before .before .before .before in
-    let h : l .before .before .before .args .size ≤ l .loop .prev + v .value .given .0 .0 = omega arith in
-    sym (known v ∙ rw (le-leb _ _ (c .before .if1 .left), le-ltb _ _ h))
+    let value : ℕ = v .value .given .0 .0 in
+    sym (known v ∙ rw (le-leb (l .loop .least) value (omega arith), le-ltb (l .loop .prev + value) (l .before .before .before .args .size) (omega arith)))
 
 loop-again : tie.Need-loop-again Inv-loop μ-loop
 loop-again c =
     let v = c .before .before .before in
     let l = v .before .before .before .before in
     let a = l .before .before .before .args in
-    let p : ℕ = l .loop .prev + v .value .given .0 .0 in
-    let h : p < a .size = omega arith in
+    let value : ℕ = v .value .given .0 .0 in
+    let p : ℕ = l .loop .prev + value in
     let rest : Outcome (Drawn (List ℕ)) = pointsFrom (a .size) (l .loop .left - 1) p 1 (drop (v .value .given .0 .1 .0) (a .file .now)) in
     record {
-      same = known v ∙ rw (le-leb _ _ (c .before .if1 .left), lt-ltb _ _ h) (mark-before (l .loop .out) p rest);
+      same = known v ∙ rw (le-leb (l .loop .least) value (omega arith), lt-ltb p (a .size) (omega arith)) (mark-before (l .loop .out) p rest);
       full = length-set (l .loop .out) p 1 ∙ l .loop .inv .full;
       low = omega arith;
     }

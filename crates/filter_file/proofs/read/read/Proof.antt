@@ -1,12 +1,14 @@
 use borrow.Author.Needs.{needs}
 use borrow.Author.Tests.{not-true, not-false, eq-eqb, ne-eqb}
 use mathlib.Core.Path.{_≡_, sym, _∙_}
+use native.Mathlib.Omega.{arith}
 use lib.ListN.{length}
 use Rattle.cube.specs.Cube.{taps}
 use Rattle.cube.proofs.Taps.{taps-range}
 use Rattle.refusal.specs.declared.Refusal.the-variants.{Length, Taps}
 use Rattle.refusal.specs.Outcome.{_otherwise_, after}
-use Rattle.filter_file.specs.Varint.{draw, outcomeOf}
+use Rattle.filter_file.specs.Drawn.{draw}
+use Rattle.filter_file.specs.Varint.{outcomeOf}
 use Rattle.filter_file.specs.File.{twoLists, contents}
 use Rattle.filter_file.specs.Read.{readOutcome}
 use Rattle.filter_file.proofs.Answers.{reads-refused}
@@ -15,11 +17,15 @@ use Rattle.filter_file.proofs.read.read.Tie as tie
 
 returns : tie.Need-returns
 unfolding readOutcome
-returns c = reads-refused Length _ _ (rw (ne-eqb _ _ (c .if1 .taken)))
+returns c =
+    let a = c .before .before .before .before .args in
+    reads-refused Length _ _ (rw (ne-eqb (length (a .set .now)) 512 (λ e. omega arith)))
 
 returns-2 : tie.Need-returns-2
 unfolding readOutcome
-returns-2 c = reads-refused Length _ _ (rw (eq-eqb _ _ (c .before .if1 .left), ne-eqb _ _ (c .if2 .taken)))
+returns-2 c =
+    let a = c .before .before .before .before .before .args in
+    reads-refused Length _ _ (rw (eq-eqb (length (a .set .now)) 512 (omega arith), ne-eqb (length (a .table .now)) 512 (λ e. omega arith)))
 
 -- what Read makes of its file once the number n has been asked for
 asked : (c : tie.After-varint-at) →
@@ -27,7 +33,9 @@ asked : (c : tie.After-varint-at) →
     readOutcome (length (a .set .now)) (length (a .table .now)) (a .file .now)
     ≡ draw (outcomeOf (a .file .now) (c .varint-at .result)) (λ n rest. after (taps n otherwise Taps) (twoLists n rest))
 unfolding readOutcome contents
-asked c = rw (eq-eqb _ _ (c .before .before .if1 .left), eq-eqb _ _ (c .before .if2 .left), c .varint-at .ensures)
+asked c =
+    let a = c .before .before .before .before .before .before .args in
+    rw (eq-eqb (length (a .set .now)) 512 (omega arith), eq-eqb (length (a .table .now)) 512 (omega arith), c .varint-at .ensures)
 
 returns-3 : tie.Need-returns-3
 returns-3 c =

@@ -3,6 +3,7 @@ use mathlib.Core.Path.{_≡_, refl, _∙_}
 use mathlib.Core.Bool.{true, false}
 use mathlib.Core.List.{List}
 use Prim.Native.Nat.{ℕ, _≤_, _<_}
+use native.Mathlib.Omega.{arith}
 use lib.ListN.{length, drop, drop-of-length-le}
 use lib.Seq.{drop-cons}
 use Rattle.cube.specs.Cube.{size}
@@ -11,7 +12,7 @@ use Rattle.cube.specs.Mask.{mask}
 use Rattle.refusal.specs.declared.Refusal.the-variants.{Surplus}
 use Rattle.refusal.specs.Refusal.{numberOf}
 use Rattle.refusal.specs.Outcome.{Outcome, refused, accepted}
-use Rattle.filter_file.specs.Varint.{Drawn, _leaving_}
+use Rattle.filter_file.specs.Drawn.{Drawn, _leaving_}
 use Rattle.filter_file.specs.PointList.{pointList, markDrawn, outcomeOf}
 use Rattle.filter_file.specs.File.{twoLists}
 use Rattle.filter_file.proofs.Marked.{zeros, list-refused, list-accepted}
@@ -82,7 +83,7 @@ unfolding twoLists
 returns c =
     let e = c .before .before in
     let l = e .before .before .before in
-    reads-refused Surplus _ _ (rw (set-read (l .before .before .before) .1, table-read e .1, remain (file (first l)) (e .end .given .0 .0) (c .if1 .taken)))
+    reads-refused Surplus _ _ (rw (set-read (l .before .before .before) .1, table-read e .1, remain (file (first l)) (e .end .given .0 .0) (omega arith)))
 
 returns-2 : tie.Need-returns-2
 unfolding twoLists
@@ -104,7 +105,7 @@ returns-4 c =
     let e = i .before .before in
     let l = e .before .before .before in
     let m = l .before .before .before in
-    rw (set-read m .1, table-read e .1, none-remain (file (first l)) (e .end .given .0 .0) (i .if1 .left))
+    rw (set-read m .1, table-read e .1, none-remain (file (first l)) (e .end .given .0 .0) (omega arith))
     (record { answer = refl; set = p .copy .ensures ∙ set-read m .2; table = q .copy2 .ensures ∙ table-read e .2 })
 
 pub read-lists-spec : {M : Type 1} → statement M
