@@ -1,5 +1,5 @@
 -- Demand 1 is met.
-use mathlib.Core.Path.{_≡_, refl, _∙_}
+use mathlib.Core.Path.{_≡_, refl, _∙_, sym, ap}
 use mathlib.Core.Bool.{Bool, true, false}
 use mathlib.Core.List.{List, [], _∷_}
 use Prim.Native.Nat.{ℕ, _≤_}
@@ -15,6 +15,7 @@ use Rattle.cube.proofs.Taps.{taps-range}
 use Rattle.cube.proofs.Masks.{mask-member}
 use Rattle.cube.proofs.MaskOf.{length-mask}
 use Rattle.refusal.specs.Outcome.{Outcome, refused, accepted}
+use Rattle.refusal.proofs.Accepted.{not-both}
 use Rattle.filter_file.specs.PointList.{RisingFrom}
 use Rattle.filter_file.specs.File.{Contents, contents, encode, Bytes, Valid}
 use Rattle.filter_file.specs.Read.{readOutcome}
@@ -74,7 +75,7 @@ unfolding readOutcome
 demand1 = record {
   valid-read = contents-encoded;
   read-in-full = λ s c h e. contents-decoded s h e;
-  garbage-refused = refuses;
+  garbage-refused = λ s h. (λ r c v same. not-both (sym (r .1) ∙ ap contents same ∙ contents-encoded c v), refuses s h);
   first-number = refused-fault;
   wrong-lengths = λ k l s. (lengths-to k l s, lengths-from k l s);
   set-points = λ s c h e. let (_, v) = contents-decoded s h e in points-listed (size (c .n)) (c .set) (size-small v) (v .set);

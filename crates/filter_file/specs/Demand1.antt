@@ -35,8 +35,9 @@ pub record Demand1 : Type 0 where
   pub valid-read : (c : Contents) → Valid c → reading (encode c) ≡ accepted c
   -- a file that is read is read in full: it is the file of what it is read as, and that obeys the rules
   pub read-in-full : (s : List ℕ) (c : Contents) → Bytes s → reading s ≡ accepted c → (s ≡ encode c) × Valid c
-  -- a file that is no such file is refused, by a number from 2 to 7
-  pub garbage-refused : (s : List ℕ) → Bytes s → ((c : Contents) → Valid c → s ≡ encode c → ⊥) → (k : ℕ) × (reading s ≡ refused k) × (2 ≤ k) × (k ≤ 7)
+  -- a file is refused, by a number from 2 to 7, exactly when it is no such file
+  pub garbage-refused : (s : List ℕ) → Bytes s
+      → ((k : ℕ) × (reading s ≡ refused k) × (2 ≤ k) × (k ≤ 7)) ↔ ((c : Contents) → Valid c → s ≡ encode c → ⊥)
   -- the number that refuses a file is that of its first fault
   pub first-number : (s : List ℕ) (k : ℕ) → Bytes s → (reading s ≡ refused k) ↔ FileFault s k
   -- before all of these, buffers that are not both 512 long are refused by 1
@@ -45,4 +46,5 @@ pub record Demand1 : Type 0 where
   pub set-points : (s : List ℕ) (c : Contents) → Bytes s → reading s ≡ accepted c → points (mask (lists (c .set))) ≡ c .set
   pub table-points : (s : List ℕ) (c : Contents) → Bytes s → reading s ≡ accepted c → points (mask (lists (c .table))) ≡ c .table
   -- and what Read accepts, Judge takes
-  pub read-judgeable : (s : List ℕ) (c : Contents) → Bytes s → reading s ≡ accepted c → Judgeable (c .n) (mask (lists (c .set))) (mask (lists (c .table)))
+  pub read-judgeable : (s : List ℕ) (c : Contents) → Bytes s → reading s ≡ accepted c
+      → Judgeable (c .n) (mask (lists (c .set))) (mask (lists (c .table)))
