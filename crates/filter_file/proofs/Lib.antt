@@ -9,3 +9,4 @@ pub mod Listing
 pub mod Refused
 pub mod Faults
 pub mod Demand1
+pub mod Longest
