@@ -8,5 +8,4 @@ pub mod Continued
 pub mod Listing
 pub mod Refused
 pub mod Faults
-pub mod Demand1
 pub mod Longest

@@ -5,4 +5,3 @@ pub mod PointList
 pub mod File
 pub mod Read
 pub mod Fault
-pub mod Demand1

@@ -9,6 +9,7 @@ pub mod Numbers
 pub mod Certificates
 pub mod Given
 pub mod Passed
+pub mod Demand1
 pub mod Demand2
 pub mod Demand3
 pub mod Cases

@@ -1,6 +1,7 @@
 -- What an acceptance of Judge shows, and that Certify then accepts where ranks are equal.
 --   Passed n s f      what the checks show: 1 to 9 taps, a set and a table of 512 bytes that obey the 0/1/0 rule, a point in the set
 --   judge-passed      what Judge accepts has passed its checks, and is judged as the definition says
+--   judge-accepts     what passes the checks is accepted
 --   certify-accepts   Certify then accepts each side and degree at which the ranks are equal, and writes the definition's certificate
 use mathlib.Core.Path.{_≡_, refl, sym}
 use mathlib.Core.Bool.{true, false, not, false≢true}
@@ -56,6 +57,12 @@ judge-passed n s f j e =
       },
       cc (point .1),
     )
+
+-- what passes the checks is accepted, and judged as the definition says
+pub judge-accepts : (n : ℕ) (s f : List ℕ) → Passed n s f → Judged n s f (judged graded n s f)
+unfolding judgeOutcome
+judge-accepts n s f p =
+    rw (eq-eqb (length s) 512 (p .set-long), eq-eqb (length f) 512 (p .table-long), p .tapped, p .set-formed, p .table-formed, p .some)
 
 -- a list that is not empty has a member
 pub some-member : (xs : List ℕ) → isEmpty xs ≡ false → (a : ℕ) × List·Memᴰ a xs

@@ -1,6 +1,8 @@
 -- The demands on the whole, sentence by sentence, about the definitions that the contracts equate with what the code answers and leaves.
 --   Convertible n b   Convert accepts n taps and the bytes b
 --   Ranked b n d r    Rank accepts the points of the mask b at n taps and degree d, lent a workspace of the right length, and answers r
+--   reading file      what Read makes of a file, lent buffers of the right lengths
+--   Demand1           a file is read in full or refused by its first number, and a refusal changes none of the lent buffers
 --   Demand2           table and coefficients turn into each other, and every rank is that of the matrix of points against monomials
 --   Judged n s f j             Judge accepts n taps, the set s and the table f, and answers and leaves j
 --   Certified n s f side d c   Certify accepts them at a side and a degree, and writes c
@@ -8,26 +10,37 @@
 --   Judgement3 n s f j         demand 3 of one n, set and table
 --   Demand3                    demand 3
 use mathlib.Core.Path.{_≡_}
-use mathlib.Core.Logic.{_↔_, _⊎_}
+use mathlib.Core.Logic.{_↔_, _⊎_, _≢_}
 use mathlib.Core.List.{List}
 use mathlib.Core.Option.{some}
 use Prim.Native.Nat.{ℕ, _≤_, _<_}
+use lib.ListN.{length}
+use Rattle.cube.specs.Numbers.{lists}
 use Rattle.cube.specs.Cube.{size}
-use Rattle.cube.specs.Mask.{member, points}
+use Rattle.cube.specs.Mask.{member, points, mask}
 use Rattle.cube.specs.BuiltIn.{graded}
-use Rattle.refusal.specs.Outcome.{accepted}
+use Rattle.refusal.specs.Outcome.{Outcome, refused, accepted}
 use Rattle.polynomial.specs.Polynomial.{Polynomial, value, UpTo, HasDegree}
-use Rattle.polynomial.specs.Convert.{convertOutcome, convertLeaves}
+use Rattle.polynomial.specs.declared.convert.Conversion.{Conversion}
+use Rattle.polynomial.specs.Convert.{convertOutcome, convertLeaves, Converts}
 use Rattle.gf2.specs.Rank.{Rank}
+use Rattle.gf2.specs.Packed.{zeros}
 use Rattle.matrix.specs.declared.rank.Ranked.{Ranked as Answer}
 use Rattle.matrix.specs.Matrix.{rows}
-use Rattle.matrix.specs.Rank.{rankOutcome}
+use Rattle.matrix.specs.declared.rank.Ranking.{Ranking}
+use Rattle.matrix.specs.Rank.{rankOutcome, Ranks}
+use Rattle.filter_file.specs.declared.read.Reading.{Reading}
+use Rattle.filter_file.specs.File.{Contents, encode, Bytes, Valid}
+use Rattle.filter_file.specs.Fault.{FileFault}
+use Rattle.filter_file.specs.Read.{readOutcome, Reads}
+use Rattle.immunity.specs.declared.judge.JudgeAnswer.{JudgeAnswer}
+use Rattle.immunity.specs.declared.certify.Certification.{Certification}
 use Rattle.immunity.specs.Part.{part}
 use Rattle.immunity.specs.Annihilator.{Annihilator}
 use Rattle.immunity.specs.Judgement.{Judgement, setRank, partRank, buffer}
 use Rattle.immunity.specs.Certificate.{Certifies}
-use Rattle.immunity.specs.Judge.{judgeOutcome}
-use Rattle.immunity.specs.Certify.{certifyOutcome}
+use Rattle.immunity.specs.Judge.{judgeOutcome, Judges}
+use Rattle.immunity.specs.Certify.{certifyOutcome, Certifying}
 
 -- Convert accepts n taps and the bytes b
 abbrev pub Convertible : ℕ → List ℕ → Type 0
@@ -40,6 +53,45 @@ Ranked b n d r = rankOutcome b n d 8192 ≡ accepted r
 -- Judge accepts n taps, the set s and the table f, lent buffers of the right lengths, and answers and leaves j
 abbrev pub Judged : ℕ → List ℕ → List ℕ → Judgement → Type 0
 Judged n s f j = judgeOutcome s f n 8192 512 512 ≡ accepted j
+
+-- what Read makes of a file, lent buffers of the right lengths
+abbrev pub reading : List ℕ → Outcome Contents
+reading file = readOutcome 512 512 file
+
+-- demand 1
+pub record Demand1 : Type 0 where
+  -- a valid file has no number: the file of each n, S and f that obey the rules is read as these
+  pub valid-read : (c : Contents) → Valid c → reading (encode c) ≡ accepted c
+  -- a file that is read is read in full: it is the file of what it is read as, and that obeys the rules
+  pub read-in-full : (file : List ℕ) (c : Contents) → Bytes file → reading file ≡ accepted c → (file ≡ encode c) × Valid c
+  -- a file is refused, by a number from 2 to 7, exactly when it is no such file
+  pub garbage-refused : (file : List ℕ) → Bytes file
+      → ((k : ℕ) × (reading file ≡ refused k) × (2 ≤ k) × (k ≤ 7)) ↔ ((c : Contents) → Valid c → file ≡ encode c → ⊥)
+  -- the number that refuses a file is that of its first fault
+  pub first-number : (file : List ℕ) (k : ℕ) → Bytes file → (reading file ≡ refused k) ↔ FileFault file k
+  -- before all of these, buffers that are not both 512 long are refused by 1
+  pub wrong-lengths : (k l : ℕ) (file : List ℕ) → (readOutcome k l file ≡ refused 1) ↔ ((k ≡ 512) × (l ≡ 512) → ⊥)
+  -- the points of each buffer are those of its list
+  pub set-points : (file : List ℕ) (c : Contents) → Bytes file → reading file ≡ accepted c → points (mask (lists (c .set))) ≡ c .set
+  pub table-points : (file : List ℕ) (c : Contents) → Bytes file → reading file ≡ accepted c → points (mask (lists (c .table))) ≡ c .table
+  -- what Read accepts, Judge accepts
+  pub read-judged : (file : List ℕ) (c : Contents) → Bytes file → reading file ≡ accepted c
+      → (j : Judgement) × Judged (c .n) (mask (lists (c .set))) (mask (lists (c .table))) j
+  -- a refusal changes none of the lent buffers: of Read,
+  pub read-keeps : (o : Outcome Contents) (r : Reading) (s s′ f f′ : List ℕ) (k : ℕ) → Reads o r s s′ f f′ → o ≡ refused k → (s′ ≡ s) × (f′ ≡ f)
+  -- of Convert,
+  pub convert-keeps : (n : ℕ) (b b′ : List ℕ) (r : Conversion) (k : ℕ) → Converts n b b′ r → convertOutcome n b ≡ refused k → b′ ≡ b
+  -- of Rank,
+  pub rank-keeps : (b : List ℕ) (n d : ℕ) (ws ws′ : List ℕ) (r : Ranking) (k : ℕ) → Ranks b n d ws ws′ r
+      → rankOutcome b n d (length ws) ≡ refused k → ws′ ≡ ws
+  -- of Judge,
+  pub judge-keeps : (s f : List ℕ) (n : ℕ) (ws one zero ws′ one′ zero′ : List ℕ) (r : JudgeAnswer) (k : ℕ)
+      → Judges s f n ws one zero ws′ one′ zero′ r → judgeOutcome s f n (length ws) (length one) (length zero) ≡ refused k
+      → (ws′ ≡ ws) × (one′ ≡ one) × (zero′ ≡ zero)
+  -- and of Certify, save that 12 leaves the workspace zero
+  pub certify-keeps : (s f : List ℕ) (n side d : ℕ) (ws c ws′ c′ : List ℕ) (r : Certification) (k : ℕ)
+      → Certifying s f n side d ws c ws′ c′ r → certifyOutcome s f n side d (length ws) (length c) ≡ refused k
+      → (c′ ≡ c) × (k ≢ 12 → ws′ ≡ ws) × (k ≡ 12 → ws′ ≡ zeros (length ws))
 
 -- demand 2
 pub record Demand2 : Type 0 where
@@ -91,5 +143,5 @@ pub record Judgement3 (n : ℕ) (s f : List ℕ) (j : Judgement) : Type 0 where
 
 -- demand 3
 pub record Demand3 : Type 0 where
-  -- for every n, set and table that Judge accepts
+  -- for every n, set and table that Judge accepts (those of every accepted file among them: `read-judged` of demand 1)
   pub every : (n : ℕ) (s f : List ℕ) (j : Judgement) → Judged n s f j → Judgement3 n s f j
