@@ -1,4 +1,5 @@
 -- Sets, tables and coefficients as they are lent: 512 bytes.
+--   bitOrZero point x   a byte for a point is 0 or 1, another is 0
 --   allowed m i x       byte i of a mask of m points may be x
 --   bitsThenZeros m b   the first m bytes of b are 0 or 1, the others 0
 --   wellFormed n b      byte a is 0 or 1 for a below N, and 0 from N on: the 0/1/0 rule of document 01

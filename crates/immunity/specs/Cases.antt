@@ -6,7 +6,9 @@
 --   onAccepted t o  whether an outcome accepts, with values that pass the test t
 --   isRefused k o   whether an outcome is a refusal by the number k
 --   holdsFact ..    whether a fact is so
+--   holdFacts ..    whether each fact of a list is so
 --   holds c         whether each fact of a case is so
+--   holdAll cs      whether each case of a list is so
 --   cases           the list
 use mathlib.Core.Bool.{Bool, true, false, _&&_}
 use mathlib.Core.List.{List, [], _∷_}

@@ -1,6 +1,7 @@
 -- Certify: document 01, 'Judgement'.
 --   certifyChecks s f n side d m l   the checks of Certify, lent the set s, the table f, a workspace of m and a certificate of l numbers
 --   certifyOutcome ..                what Certify writes: the first refusal, or the certificate
+--   zeroIf b ws                      a buffer that is zero, or as it was
 --   clearedUnless o ws               the workspace as Certify leaves it: zero after acceptance and after 12, else as it was
 --   outcomeOf r c                    what an answer, with the certificate at exit, states
 --   Certifying ..                    the contract of Certify

@@ -1,7 +1,7 @@
 -- Hand over: document 01, 'Judgement'.
 --   ofSide side one zero       the buffer of a side: `one` for side 1, else `zero`
 --   right n side one zero      n, the side and both lengths are right
---   oneIf b xs ys               the list xs, or ys
+--   oneIf b one zero           one of two buffers, by a test
 --   handed n side one zero     the part that is handed back
 use mathlib.Core.Bool.{Bool, true, false, _&&_}
 use mathlib.Core.List.{List, []}

@@ -1,6 +1,7 @@
 -- Judge: document 01, 'Judgement'.
 --   judgeChecks s f n m p q    the checks of Judge, lent the set s, the table f, a workspace of m numbers and witness buffers of p and q bytes
 --   judgeOutcome ..            what Judge answers and leaves: the first refusal, or the judgement of the set and the table
+--   found ..                   the number or the values of what was found
 --   outcomeOf r one zero       what an answer, with the witness buffers at exit, states
 --   Judges ..                  the contract of Judge
 use mathlib.Core.Path.{_≡_}
