@@ -22,11 +22,11 @@ use Rattle.matrix.specs.Matrix.{rows}
 use Rattle.matrix.proofs.RankOf.{rank-of, rank-accepted}
 use Rattle.immunity.specs.Part.{part}
 use Rattle.immunity.specs.Judgement.{Judgement, judged, setRank, partRank}
-use Rattle.immunity.specs.Demands.{Convertible, Judged, Demand2}
+use Rattle.immunity.specs.Demands.{ConvertAccepts, JudgeAccepts, Demand2}
 use Rattle.immunity.proofs.Given.{set-given, part-given}
 use Rattle.immunity.proofs.Passed.{judge-passed}
 
-module _ (n : ℕ) (b : List ℕ) (e : Convertible n b) where
+module _ (n : ℕ) (b : List ℕ) (e : ConvertAccepts n b) where
   -- what Convert has checked
   passed : Passed {A = Unit {0}} n b (accepted tt) tt
   unfolding convertOutcome
@@ -46,28 +46,28 @@ module _ (n : ℕ) (b : List ℕ) (e : Convertible n b) where
   to-table a l = ap (λ x. member x a) leaves ∙ converted-at n b a l
 
   -- it is accepted
-  again : Convertible n (convertLeaves n b)
+  again : ConvertAccepts n (convertLeaves n b)
   unfolding convertOutcome
   again =
       rw leaves (checks-pass n (converted n b) (accepted tt) (length-converted n b fits ∙ passed .long) (passed .taps) (converted-formed n b (passed .formed)))
 
 -- from the table of a polynomial to the polynomial
-only : (n : ℕ) (p : Polynomial) (t : List ℕ) → Convertible n t → ((a : ℕ) → a < size n → member t a ≡ value n p a)
+only : (n : ℕ) (p : Polynomial) (t : List ℕ) → ConvertAccepts n t → ((a : ℕ) → a < size n → member t a ≡ value n p a)
     → (u : ℕ) → u < size n → member (convertLeaves n t) u ≡ p u
 only n p t e h u l = to-table n t e u l ∙ value-same n (member t) (value n p) u h ∙ value-twice n p u l
 
 -- Judge accepts up to nine taps, and judges as the definition says
-few-taps : (n : ℕ) (s f : List ℕ) (j : Judgement) → Judged n s f j → (n ≤ 9) × (judged graded n s f ≡ j)
+few-taps : (n : ℕ) (s f : List ℕ) (j : Judgement) → JudgeAccepts n s f j → (n ≤ 9) × (judged graded n s f ≡ j)
 few-taps n s f j e = let (p, is) = judge-passed n s f j e in (taps-range n .0 (p .tapped) .1, is)
 
 -- the rank of the set that Judge gives is that of its matrix
-set-rank : (n : ℕ) (s f : List ℕ) (j : Judgement) → Judged n s f j → (d : ℕ) → d ≤ n → Rank (rows graded n d (points s)) (setRank j d)
+set-rank : (n : ℕ) (s f : List ℕ) (j : Judgement) → JudgeAccepts n s f j → (d : ℕ) → d ≤ n → Rank (rows graded n d (points s)) (setRank j d)
 set-rank n s f j e d l =
     let (small, is) = few-taps n s f j e in
     subst (Rank (rows graded n d (points s))) (sym (set-given graded n s f d l small) ∙ ap (λ x. setRank x d) is) (rank-of graded n d (points s))
 
 -- and so is that of each part
-part-rank : (n : ℕ) (s f : List ℕ) (j : Judgement) → Judged n s f j → (side d : ℕ) → side ≤ 1 → d ≤ n
+part-rank : (n : ℕ) (s f : List ℕ) (j : Judgement) → JudgeAccepts n s f j → (side d : ℕ) → side ≤ 1 → d ≤ n
     → Rank (rows graded n d (part side s f)) (partRank j side d)
 part-rank n s f j e side d m l =
     let (small, is) = few-taps n s f j e in

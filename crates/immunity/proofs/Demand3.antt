@@ -26,7 +26,7 @@ use Rattle.immunity.specs.Part.{part}
 use Rattle.immunity.specs.Witness.{IsWitness, witnessAt}
 use Rattle.immunity.specs.Judgement.{EqualRanks, reported, witnessBytes, judged, buffer}
 use Rattle.immunity.specs.Certificate.{Certifies, certificate}
-use Rattle.immunity.specs.Demands.{Certified, GivenEqual, Judgement3, Demand3}
+use Rattle.immunity.specs.Demands.{CertifyAccepts, GivenEqual, Judgement3, Demand3}
 use Rattle.immunity.specs.Annihilator.{Annihilator}
 use Rattle.immunity.proofs.Parts.{part-rising}
 use Rattle.immunity.proofs.Given.{equal-given}
@@ -95,7 +95,7 @@ judgement3 n s f p = go (reports graded-is-graded small s f inside (point .0) (p
 
     -- the certificate of a side and a degree at which they are
     certified : (side d : ℕ) → side ≤ 1 → d ≤ n → EqualRanks graded n s f side d
-        → (c : List ℕ) × Certified n s f side d c × Certifies graded n d (points s) (part side s f) c
+        → (c : List ℕ) × CertifyAccepts n s f side d c × Certifies graded n d (points s) (part side s f) c
     certified side d l m e = (
       certificate graded n s f side d,
       certify-accepts n s f p side d l m e,

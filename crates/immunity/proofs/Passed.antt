@@ -2,6 +2,7 @@
 --   Passed n s f      what the checks show: 1 to 9 taps, a set and a table of 512 bytes that obey the 0/1/0 rule, a point in the set
 --   judge-passed      what Judge accepts has passed its checks, and is judged as the definition says
 --   judge-accepts     what passes the checks is accepted
+--   some-member       a list that is not empty has a member
 --   certify-accepts   Certify then accepts each side and degree at which the ranks are equal, and writes the definition's certificate
 use mathlib.Core.Path.{_≡_, refl, sym}
 use mathlib.Core.Bool.{true, false, not, false≢true}
@@ -21,7 +22,7 @@ use Rattle.immunity.specs.Judgement.{Judgement, EqualRanks, differs, jud
 use Rattle.immunity.specs.Certificate.{certificate}
 use Rattle.immunity.specs.Judge.{judgeOutcome}
 use Rattle.immunity.specs.Certify.{certifyOutcome}
-use Rattle.immunity.specs.Demands.{Judged, Certified}
+use Rattle.immunity.specs.Demands.{JudgeAccepts, CertifyAccepts}
 
 -- what the checks show
 pub record Passed (n : ℕ) (s f : List ℕ) : Type 0 where
@@ -37,7 +38,7 @@ abbrev later : ℕ → List ℕ → List ℕ → List Check
 later n s f = wellFormed n s otherwise Bytes ∷ wellFormed n f otherwise Bytes ∷ not (isEmpty (points s)) otherwise EmptySet ∷ []
 
 -- what Judge accepts has passed its checks, and is judged as the definition says
-pub judge-passed : (n : ℕ) (s f : List ℕ) (j : Judgement) → Judged n s f j → Passed n s f × (judged graded n s f ≡ j)
+pub judge-passed : (n : ℕ) (s f : List ℕ) (j : Judgement) → JudgeAccepts n s f j → Passed n s f × (judged graded n s f ≡ j)
 unfolding judgeOutcome
 judge-passed n s f j e =
     let o : Outcome Judgement = accepted (judged graded n s f) in
@@ -59,7 +60,7 @@ judge-passed n s f j e =
     )
 
 -- what passes the checks is accepted, and judged as the definition says
-pub judge-accepts : (n : ℕ) (s f : List ℕ) → Passed n s f → Judged n s f (judged graded n s f)
+pub judge-accepts : (n : ℕ) (s f : List ℕ) → Passed n s f → JudgeAccepts n s f (judged graded n s f)
 unfolding judgeOutcome
 judge-accepts n s f p =
     rw (eq-eqb (length s) 512 (p .set-long), eq-eqb (length f) 512 (p .table-long), p .tapped, p .set-formed, p .table-formed, p .some)
@@ -72,7 +73,7 @@ some-member (x ∷ xs) e = (x, List·Memᴰ·head refl)
 
 -- Certify accepts each side and degree at which the ranks are equal, and writes the definition's certificate
 pub certify-accepts : (n : ℕ) (s f : List ℕ) → Passed n s f → (side d : ℕ) → side ≤ 1 → d ≤ n → EqualRanks graded n s f side d
-    → Certified n s f side d (certificate graded n s f side d)
+    → CertifyAccepts n s f side d (certificate graded n s f side d)
 unfolding certifyOutcome differs
 certify-accepts n s f p side d l m e =
     rw (

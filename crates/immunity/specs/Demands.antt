@@ -1,14 +1,14 @@
 -- The demands on the whole, sentence by sentence, about the definitions that the contracts equate with what the code answers and leaves.
---   Convertible n b   Convert accepts n taps and the bytes b
---   Ranked b n d r    Rank accepts the points of the mask b at n taps and degree d, lent a workspace of the right length, and answers r
---   reading file      what Read makes of a file, lent buffers of the right lengths
---   Demand1           a file is read in full or refused by its first number, and a refusal changes none of the lent buffers
---   Demand2           table and coefficients turn into each other, and every rank is that of the matrix of points against monomials
---   Judged n s f j             Judge accepts n taps, the set s and the table f, and answers and leaves j
---   Certified n s f side d c   Certify accepts them at a side and a degree, and writes c
---   GivenEqual j side d        the two ranks that the judgement j gives for a side at degree d are equal
---   Judgement3 n s f j         demand 3 of one n, set and table
---   Demand3                    demand 3
+--   ConvertAccepts n b              Convert accepts n taps and the bytes b
+--   RankAccepts b n d r             Rank accepts the points of the mask b at n taps and degree d, lent a workspace of the right length, and answers r
+--   JudgeAccepts n s f j            Judge accepts n taps, the set s and the table f, lent buffers of the right lengths, and answers and leaves j
+--   CertifyAccepts n s f side d c   Certify accepts them at a side and a degree, and writes c
+--   reading file                    what Read makes of a file, lent buffers of the right lengths
+--   Demand1                         a file is read in full or refused by its first number, and a refusal changes none of the lent buffers
+--   Demand2                         table and coefficients turn into each other, and every rank is that of the matrix of points against monomials
+--   GivenEqual j side d             the two ranks that the judgement j gives for a side at degree d are equal
+--   Judgement3 n s f j              demand 3 of one n, set and table
+--   Demand3                         demand 3
 use mathlib.Core.Path.{_≡_}
 use mathlib.Core.Logic.{_↔_, _⊎_, _≢_}
 use mathlib.Core.List.{List}
@@ -25,7 +25,7 @@ use Rattle.polynomial.specs.declared.convert.Conversion.{Conversion}
 use Rattle.polynomial.specs.Convert.{convertOutcome, convertLeaves, Converts}
 use Rattle.gf2.specs.Rank.{Rank}
 use Rattle.gf2.specs.Packed.{zeros}
-use Rattle.matrix.specs.declared.rank.Ranked.{Ranked as Answer}
+use Rattle.matrix.specs.declared.rank.Ranked.{Ranked}
 use Rattle.matrix.specs.Matrix.{rows}
 use Rattle.matrix.specs.declared.rank.Ranking.{Ranking}
 use Rattle.matrix.specs.Rank.{rankOutcome, Ranks}
@@ -43,16 +43,16 @@ use Rattle.immunity.specs.Judge.{judgeOutcome, Judges}
 use Rattle.immunity.specs.Certify.{certifyOutcome, Certifying}
 
 -- Convert accepts n taps and the bytes b
-abbrev pub Convertible : ℕ → List ℕ → Type 0
-Convertible n b = convertOutcome n b ≡ accepted tt
+abbrev pub ConvertAccepts : ℕ → List ℕ → Type 0
+ConvertAccepts n b = convertOutcome n b ≡ accepted tt
 
 -- Rank accepts the points of the mask b at n taps and degree d, lent a workspace of the right length, and answers r
-abbrev pub Ranked : List ℕ → ℕ → ℕ → Answer → Type 0
-Ranked b n d r = rankOutcome b n d 8192 ≡ accepted r
+abbrev pub RankAccepts : List ℕ → ℕ → ℕ → Ranked → Type 0
+RankAccepts b n d r = rankOutcome b n d 8192 ≡ accepted r
 
 -- Judge accepts n taps, the set s and the table f, lent buffers of the right lengths, and answers and leaves j
-abbrev pub Judged : ℕ → List ℕ → List ℕ → Judgement → Type 0
-Judged n s f j = judgeOutcome s f n 8192 512 512 ≡ accepted j
+abbrev pub JudgeAccepts : ℕ → List ℕ → List ℕ → Judgement → Type 0
+JudgeAccepts n s f j = judgeOutcome s f n 8192 512 512 ≡ accepted j
 
 -- what Read makes of a file, lent buffers of the right lengths
 abbrev pub reading : List ℕ → Outcome Contents
@@ -76,7 +76,7 @@ pub record Demand1 : Type 0 where
   pub table-points : (file : List ℕ) (c : Contents) → Bytes file → reading file ≡ accepted c → points (mask (lists (c .table))) ≡ c .table
   -- what Read accepts, Judge accepts
   pub read-judged : (file : List ℕ) (c : Contents) → Bytes file → reading file ≡ accepted c
-      → (j : Judgement) × Judged (c .n) (mask (lists (c .set))) (mask (lists (c .table))) j
+      → (j : Judgement) × JudgeAccepts (c .n) (mask (lists (c .set))) (mask (lists (c .table))) j
   -- a refusal changes none of the lent buffers: of Read,
   pub read-keeps : (o : Outcome Contents) (r : Reading) (s s′ f f′ : List ℕ) (k : ℕ) → Reads o r s s′ f f′ → o ≡ refused k → (s′ ≡ s) × (f′ ≡ f)
   -- of Convert,
@@ -96,25 +96,25 @@ pub record Demand1 : Type 0 where
 -- demand 2
 pub record Demand2 : Type 0 where
   -- a table becomes coefficients: the polynomial that they choose has at every point the value of the table there
-  pub to-coefficients : (n : ℕ) (t : List ℕ) → Convertible n t → (a : ℕ) → a < size n → value n (member (convertLeaves n t)) a ≡ member t a
+  pub to-coefficients : (n : ℕ) (t : List ℕ) → ConvertAccepts n t → (a : ℕ) → a < size n → value n (member (convertLeaves n t)) a ≡ member t a
   -- coefficients become a table: at every point the value there of the polynomial that they choose
-  pub to-table : (n : ℕ) (c : List ℕ) → Convertible n c → (a : ℕ) → a < size n → member (convertLeaves n c) a ≡ value n (member c) a
+  pub to-table : (n : ℕ) (c : List ℕ) → ConvertAccepts n c → (a : ℕ) → a < size n → member (convertLeaves n c) a ≡ value n (member c) a
   -- the coefficients of the table of a polynomial are the polynomial
-  pub only-coefficients : (n : ℕ) (p : Polynomial) (t : List ℕ) → Convertible n t → ((a : ℕ) → a < size n → member t a ≡ value n p a)
+  pub only-coefficients : (n : ℕ) (p : Polynomial) (t : List ℕ) → ConvertAccepts n t → ((a : ℕ) → a < size n → member t a ≡ value n p a)
       → (u : ℕ) → u < size n → member (convertLeaves n t) u ≡ p u
   -- and back: what Convert leaves it accepts, and turns into what it was lent
-  pub back : (n : ℕ) (b : List ℕ) → Convertible n b → Convertible n (convertLeaves n b) × (convertLeaves n (convertLeaves n b) ≡ b)
+  pub back : (n : ℕ) (b : List ℕ) → ConvertAccepts n b → ConvertAccepts n (convertLeaves n b) × (convertLeaves n (convertLeaves n b) ≡ b)
   -- Rank's rank is the rank over the field of two elements of the matrix of the mask's points against the monomials up to the degree
-  pub rank : (b : List ℕ) (n d : ℕ) (r : Answer) → Ranked b n d r → Rank (rows graded n d (points b)) (r .rank)
+  pub rank : (b : List ℕ) (n d : ℕ) (r : Ranked) → RankAccepts b n d r → Rank (rows graded n d (points b)) (r .rank)
   -- so are the ranks that Judge gives: of the set
-  pub set-rank : (n : ℕ) (s f : List ℕ) (j : Judgement) → Judged n s f j → (d : ℕ) → d ≤ n → Rank (rows graded n d (points s)) (setRank j d)
+  pub set-rank : (n : ℕ) (s f : List ℕ) (j : Judgement) → JudgeAccepts n s f j → (d : ℕ) → d ≤ n → Rank (rows graded n d (points s)) (setRank j d)
   -- and of each part
-  pub part-rank : (n : ℕ) (s f : List ℕ) (j : Judgement) → Judged n s f j → (side d : ℕ) → side ≤ 1 → d ≤ n
+  pub part-rank : (n : ℕ) (s f : List ℕ) (j : Judgement) → JudgeAccepts n s f j → (side d : ℕ) → side ≤ 1 → d ≤ n
       → Rank (rows graded n d (part side s f)) (partRank j side d)
 
 -- Certify accepts them at a side and a degree, and writes the certificate c
-abbrev pub Certified : ℕ → List ℕ → List ℕ → ℕ → ℕ → List ℕ → Type 0
-Certified n s f side d c = certifyOutcome s f n side d 8192 4096 ≡ accepted c
+abbrev pub CertifyAccepts : ℕ → List ℕ → List ℕ → ℕ → ℕ → List ℕ → Type 0
+CertifyAccepts n s f side d c = certifyOutcome s f n side d 8192 4096 ≡ accepted c
 
 -- the two ranks that the judgement gives, of the set and of the side's part, are equal
 abbrev pub GivenEqual : Judgement → ℕ → ℕ → Type 0
@@ -127,7 +127,7 @@ pub record Judgement3 (n : ℕ) (s f : List ℕ) (j : Judgement) : Type 0 where
       → GivenEqual j side d ↔ ((p : Polynomial) → UpTo n d p → ¬ Annihilator n p (part side s f) (points s))
   -- where they are equal, Certify's certificate names for each point of S outside the part points of the part whose rows sum to its row, and nothing else
   pub certified : (side d : ℕ) → side ≤ 1 → d ≤ n → GivenEqual j side d
-      → (c : List ℕ) × Certified n s f side d c × Certifies graded n d (points s) (part side s f) c
+      → (c : List ℕ) × CertifyAccepts n s f side d c × Certifies graded n d (points s) (part side s f) c
   -- a degree is reported
   pub k : ℕ
   pub reported : j .degree ≡ some k
@@ -144,4 +144,4 @@ pub record Judgement3 (n : ℕ) (s f : List ℕ) (j : Judgement) : Type 0 where
 -- demand 3
 pub record Demand3 : Type 0 where
   -- for every n, set and table that Judge accepts (those of every accepted file among them: `read-judged` of demand 1)
-  pub every : (n : ℕ) (s f : List ℕ) (j : Judgement) → Judged n s f j → Judgement3 n s f j
+  pub every : (n : ℕ) (s f : List ℕ) (j : Judgement) → JudgeAccepts n s f j → Judgement3 n s f j
