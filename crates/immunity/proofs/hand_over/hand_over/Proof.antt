@@ -6,6 +6,7 @@ use borrow.Author.Needs.{needs}
 use borrow.Author.Tests.{lt-leb, le-leb, eq-eqb, ne-eqb, not-true, not-false}
 use Rattle.cube.specs.Cube.{size, taps}
 use Rattle.cube.proofs.Taps.{taps-range}
+use Rattle.immunity.specs.HandOver.{right}
 use Rattle.immunity.proofs.hand_over.hand_over.Statement.{statement}
 use Rattle.immunity.proofs.hand_over.hand_over.Tie as tie
 
@@ -38,39 +39,24 @@ returns-4 c =
 points : (c : tie.After-size) → c .size .result ≡ size (c .before .before .before .before .before .before .before .before .args .n)
 points c = c .size .ensures .0 (taps-range _ .0 (right-taps (c .before .before)) .1)
 
+-- n, the side and both lengths are right
+all-right : (c : tie.After-size) → let a = c .before .before .before .before .before .before .before .before .args in right (a .n) (a .side) (a .one .now) (a .zero .now) ≡ true
+all-right c =
+    let e3 = c .before .before in
+    let t = e3 .before in
+    simp (eq-eqb _ _ (t .before .before .if1 .left), eq-eqb _ _ (t .before .if2 .left), right-taps e3, le-leb _ _ (c .before .if4 .left))
+
 slice-aggregate-result-5 : tie.Need-slice-aggregate-result-5
 slice-aggregate-result-5 c = sym (length-take-le _ _ (omega arith))
 
 returns-5 : tie.Need-returns-5
-returns-5 c =
-    let z = c .before .before in
-    let e3 = z .before .before in
-    let t = e3 .before in
-    simp (
-      points z,
-      eq-eqb _ _ (t .before .before .if1 .left),
-      eq-eqb _ _ (t .before .if2 .left),
-      right-taps e3,
-      le-leb _ _ (z .before .if4 .left),
-      eq-eqb _ _ (c .before .if5 .taken),
-    )
+returns-5 c = simp (points (c .before .before), all-right (c .before .before), eq-eqb _ _ (c .before .if5 .taken))
 
 slice-aggregate-result-6 : tie.Need-slice-aggregate-result-6
 slice-aggregate-result-6 c = sym (length-take-le _ _ (omega arith))
 
 returns-6 : tie.Need-returns-6
-returns-6 c =
-    let z = c .before .before in
-    let e3 = z .before .before in
-    let t = e3 .before in
-    simp (
-      points z,
-      eq-eqb _ _ (t .before .before .if1 .left),
-      eq-eqb _ _ (t .before .if2 .left),
-      right-taps e3,
-      le-leb _ _ (z .before .if4 .left),
-      ne-eqb _ _ (c .before .if5 .left),
-    )
+returns-6 c = simp (points (c .before .before), all-right (c .before .before), ne-eqb _ _ (c .before .if5 .left))
 
 pub hand-over-spec : {M : Type 1} → statement M
 hand-over-spec =
