@@ -10,9 +10,9 @@ use native.Mathlib.Omega.{arith}
 use lib.ListN.{length, getD, set}
 use lib.Seq.{paste}
 use Rattle.gf2.specs.Vector.{Row}
-use Rattle.gf2.specs.Packed.{table, rowOf}
+use Rattle.gf2.specs.Packed.{unpacked, rowOf}
 use Rattle.gf2.proofs.Bitwise.{pairs, length-pairs, getD-pairs, Bitwise, unpack-pairs}
-use Rattle.gf2.proofs.Table.{words, getD-words, length-words, row-at, paste-old, paste-turn, paste-done}
+use Rattle.gf2.proofs.Rows.{words, getD-words, length-words, row-at, paste-old, paste-turn, paste-done}
 
 -- the eight numbers of rows p and q of d, joined one by one
 abbrev pub joined : (ℕ → ℕ → ℕ) → List ℕ → ℕ → ℕ → List ℕ
@@ -42,7 +42,7 @@ module _ {op : ℕ → ℕ → ℕ} {b : Bool → Bool → Bool} {f : Row → Ro
 
   -- its end
   pub join-done : (ws : List ℕ) (k : ℕ) → ws ≡ paste d (to * 8) (joined op d p q) k → k ≡ 8
-      → table ws ≡ set (table d) to (f (rowOf (table d) p) (rowOf (table d) q))
+      → unpacked ws ≡ set (unpacked d) to (f (rowOf (unpacked d) p) (rowOf (unpacked d) q))
   join-done ws k e h =
       paste-done d to (joined op d p q) ws k e h ht l eight
-      ∙ ap (set (table d) to) (unpack-pairs bitwise (words d p) (words d q) same-words ∙ sym (ap₂ f (row-at 1024 d p hp) (row-at 1024 d q hq)))
+      ∙ ap (set (unpacked d) to) (unpack-pairs bitwise (words d p) (words d q) same-words ∙ sym (ap₂ f (row-at 1024 d p hp) (row-at 1024 d q hq)))

@@ -23,6 +23,6 @@ pub mod Bitwise
 pub mod Words
 pub mod Cuts
 pub mod Packing
-pub mod Table
+pub mod Rows
 pub mod Joined
 pub mod Steps

@@ -2,8 +2,8 @@
 --   odd a                  the lowest bit of a number
 --   bitsOf n a             the n lowest bits of a number, the lowest first
 --   unpack ws              the row in a list of numbers
---   tableOf n ws           the first n rows of a list of numbers
---   table ws               the 1024 rows of the workspace
+--   unpackRows n ws        the first n rows of a list of numbers
+--   unpacked ws            the 1024 rows of the workspace
 --   rowOf t j              row j of a list of rows, empty past its end
 --   zeroRow                the row of 512 zeros
 --   zeros n                n numbers that are zero
@@ -40,13 +40,13 @@ unpack [] = []
 unpack (w ∷ ws) = bitsOf 64 w ++ unpack ws
 
 -- the n rows of a list of numbers, eight numbers to a row
-unfoldable pub tableOf : ℕ → List ℕ → List Row
-tableOf zero ws = []
-tableOf (suc n) ws = unpack (take 8 ws) ∷ tableOf n (drop 8 ws)
+unfoldable pub unpackRows : ℕ → List ℕ → List Row
+unpackRows zero ws = []
+unpackRows (suc n) ws = unpack (take 8 ws) ∷ unpackRows n (drop 8 ws)
 
 -- the 1024 rows of the workspace of 8192 numbers
-abbrev pub table : List ℕ → List Row
-table ws = tableOf 1024 ws
+abbrev pub unpacked : List ℕ → List Row
+unpacked ws = unpackRows 1024 ws
 
 -- row j of a list of rows, empty past its end
 abbrev pub rowOf : List Row → ℕ → Row

@@ -4,7 +4,7 @@ ghost use mathlib.Core.Path.{_≡_};
 ghost use Prim.Native.Nat.{_+_, _<_, _≤_};
 ghost use lib.ListN.{length};
 ghost use Rattle.gf2.specs.Elimination.{isZero};
-ghost use Rattle.gf2.specs.Packed.{table, rowOf, Pivots, Reduces, oneMoreUnless};
+ghost use Rattle.gf2.specs.Packed.{unpacked, rowOf, Pivots, Reduces, oneMoreUnless};
 use crate::COLUMNS;
 use crate::packed::add_row;
 use crate::packed::entry;
@@ -13,8 +13,8 @@ use crate::packed::pivot;
 // Row `row` is reduced by the `kept` rows before it: each of them in whose pivot it has a one is added to it. The result
 // is the number of additions.
 pub fn reduce(ws: &mut [u64], pivots: &[u16], kept: usize, row: usize) -> u32
-    requires { ⌜ (length (now ws) ≡ 8192) × (length (now pivots) ≡ 512) × (kept ≤ 512) × (kept ≤ row) × (row < 1024) × Pivots (now pivots) (table (now ws)) kept ⌝ }
-    ensures { λ r. ⌜ Reduces kept row (table (now (ws .entry))) (table (now (ws .exit))) r × (r ≤ kept) ⌝ }
+    requires { ⌜ (length (now ws) ≡ 8192) × (length (now pivots) ≡ 512) × (kept ≤ 512) × (kept ≤ row) × (row < 1024) × Pivots (now pivots) (unpacked (now ws)) kept ⌝ }
+    ensures { λ r. ⌜ Reduces kept row (unpacked (now (ws .entry))) (unpacked (now (ws .exit))) r × (r ≤ kept) ⌝ }
 {
     let mut count: u32 = 0;
     let mut j: usize = 0;
@@ -31,9 +31,9 @@ pub fn reduce(ws: &mut [u64], pivots: &[u16], kept: usize, row: usize) -> u32
 
 // Row `kept` becomes a kept row, unless it is zero. The result is the number of kept rows.
 pub fn keep(ws: &[u64], pivots: &mut [u16], kept: usize) -> usize
-    requires { ⌜ (length (now ws) ≡ 8192) × (length (now pivots) ≡ 512) × (kept < 512) × Pivots (now pivots) (table (now ws)) kept ⌝ }
-    ensures { λ r. ⌜ (r ≡ oneMoreUnless (isZero (rowOf (table (now (ws .entry))) kept)) kept) × (r ≤ kept + 1) ⌝ }
-    ensures { λ r. ⌜ Pivots (now (pivots .exit)) (table (now (ws .entry))) r ⌝ }
+    requires { ⌜ (length (now ws) ≡ 8192) × (length (now pivots) ≡ 512) × (kept < 512) × Pivots (now pivots) (unpacked (now ws)) kept ⌝ }
+    ensures { λ r. ⌜ (r ≡ oneMoreUnless (isZero (rowOf (unpacked (now (ws .entry))) kept)) kept) × (r ≤ kept + 1) ⌝ }
+    ensures { λ r. ⌜ Pivots (now (pivots .exit)) (unpacked (now (ws .entry))) r ⌝ }
 {
     let c = pivot(ws, kept);
     if c < COLUMNS {

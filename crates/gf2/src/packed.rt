@@ -6,7 +6,7 @@ ghost use Prim.Native.Nat.{_-_, _%_, _^_, _<_};
 ghost use lib.ListN.{length, set};
 ghost use Rattle.gf2.specs.Vector.{entry as entryOf, add};
 ghost use Rattle.gf2.specs.Elimination.{pivot as pivotOf};
-ghost use Rattle.gf2.specs.Packed.{table, rowOf, zeroRow, zeros, cut, common};
+ghost use Rattle.gf2.specs.Packed.{unpacked, rowOf, zeroRow, zeros, cut, common};
 use crate::COLUMNS;
 use crate::ROW_WORDS;
 use crate::WORD_BITS;
@@ -14,7 +14,7 @@ use crate::WORD_BITS;
 // The entry of row `row` at column `c`.
 pub fn entry(ws: &[u64], row: usize, c: usize) -> bool
     requires { ⌜ (length (now ws) ≡ 8192) × (row < 1024) × (c < 512) ⌝ }
-    ensures { λ r. ⌜ r ≡ entryOf (rowOf (table (now (ws .entry))) row) c ⌝ }
+    ensures { λ r. ⌜ r ≡ entryOf (rowOf (unpacked (now (ws .entry))) row) c ⌝ }
 {
     (ws[row * ROW_WORDS + c / WORD_BITS] >> (c % WORD_BITS)) % 2 == 1
 }
@@ -22,7 +22,7 @@ pub fn entry(ws: &[u64], row: usize, c: usize) -> bool
 // The entry of row `row` at column `c` becomes a one.
 pub fn set_entry(ws: &mut [u64], row: usize, c: usize)
     requires { ⌜ (length (now ws) ≡ 8192) × (row < 1024) × (c < 512) ⌝ }
-    ensures { λ _. ⌜ table (now (ws .exit)) ≡ set (table (now (ws .entry))) row (set (rowOf (table (now (ws .entry))) row) c true) ⌝ }
+    ensures { λ _. ⌜ unpacked (now (ws .exit)) ≡ set (unpacked (now (ws .entry))) row (set (rowOf (unpacked (now (ws .entry))) row) c true) ⌝ }
 {
     let i = row * ROW_WORDS + c / WORD_BITS;
     ws[i] = ws[i] | (1u64 << (c % WORD_BITS));
@@ -31,7 +31,7 @@ pub fn set_entry(ws: &mut [u64], row: usize, c: usize)
 // The first column of row `row` with a one; 512 where there is none.
 pub fn pivot(ws: &[u64], row: usize) -> usize
     requires { ⌜ (length (now ws) ≡ 8192) × (row < 1024) ⌝ }
-    ensures { λ r. ⌜ r ≡ pivotOf (rowOf (table (now (ws .entry))) row) ⌝ }
+    ensures { λ r. ⌜ r ≡ pivotOf (rowOf (unpacked (now (ws .entry))) row) ⌝ }
 {
     let mut k: usize = 0;
     while k < ROW_WORDS {
@@ -47,7 +47,7 @@ pub fn pivot(ws: &[u64], row: usize) -> usize
 // Row `from` is added to row `to`.
 pub fn add_row(ws: &mut [u64], to: usize, from: usize)
     requires { ⌜ (length (now ws) ≡ 8192) × (to < 1024) × (from < 1024) ⌝ }
-    ensures { λ _. ⌜ table (now (ws .exit)) ≡ set (table (now (ws .entry))) to (add (rowOf (table (now (ws .entry))) to) (rowOf (table (now (ws .entry))) from)) ⌝ }
+    ensures { λ _. ⌜ unpacked (now (ws .exit)) ≡ set (unpacked (now (ws .entry))) to (add (rowOf (unpacked (now (ws .entry))) to) (rowOf (unpacked (now (ws .entry))) from)) ⌝ }
 {
     let mut k: usize = 0;
     while k < ROW_WORDS {
@@ -61,7 +61,7 @@ pub fn add_row(ws: &mut [u64], to: usize, from: usize)
 // Row `to` becomes the common ones of rows `p` and `q`.
 pub fn common_row(ws: &mut [u64], to: usize, p: usize, q: usize)
     requires { ⌜ (length (now ws) ≡ 8192) × (to < 1024) × (p < 1024) × (q < 1024) ⌝ }
-    ensures { λ _. ⌜ table (now (ws .exit)) ≡ set (table (now (ws .entry))) to (common (rowOf (table (now (ws .entry))) p) (rowOf (table (now (ws .entry))) q)) ⌝ }
+    ensures { λ _. ⌜ unpacked (now (ws .exit)) ≡ set (unpacked (now (ws .entry))) to (common (rowOf (unpacked (now (ws .entry))) p) (rowOf (unpacked (now (ws .entry))) q)) ⌝ }
 {
     let mut k: usize = 0;
     while k < ROW_WORDS {
@@ -96,7 +96,7 @@ fn saturating_sub(a: usize, b: usize) -> usize
 // Row `to` becomes row `from` with zeros from column `columns` on.
 pub fn copy_columns(ws: &mut [u64], to: usize, from: usize, columns: usize)
     requires { ⌜ (length (now ws) ≡ 8192) × (to < 1024) × (from < 1024) ⌝ }
-    ensures { λ _. ⌜ table (now (ws .exit)) ≡ set (table (now (ws .entry))) to (cut columns (rowOf (table (now (ws .entry))) from)) ⌝ }
+    ensures { λ _. ⌜ unpacked (now (ws .exit)) ≡ set (unpacked (now (ws .entry))) to (cut columns (rowOf (unpacked (now (ws .entry))) from)) ⌝ }
 {
     let mut k: usize = 0;
     while k < ROW_WORDS {
@@ -110,7 +110,7 @@ pub fn copy_columns(ws: &mut [u64], to: usize, from: usize, columns: usize)
 // Every entry of row `row` becomes zero.
 pub fn clear_row(ws: &mut [u64], row: usize)
     requires { ⌜ (length (now ws) ≡ 8192) × (row < 1024) ⌝ }
-    ensures { λ _. ⌜ table (now (ws .exit)) ≡ set (table (now (ws .entry))) row zeroRow ⌝ }
+    ensures { λ _. ⌜ unpacked (now (ws .exit)) ≡ set (unpacked (now (ws .entry))) row zeroRow ⌝ }
 {
     let mut k: usize = 0;
     while k < ROW_WORDS {

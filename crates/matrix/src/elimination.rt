@@ -3,7 +3,7 @@ ghost use mathlib.Core.Path.{_≡_};
 ghost use Prim.Native.Nat.{_≤_, _<_};
 ghost use lib.ListN.{length};
 ghost use Rattle.cube.specs.Mask.{points};
-ghost use Rattle.gf2.specs.Packed.{table, rowOf, cut, Pivots};
+ghost use Rattle.gf2.specs.Packed.{unpacked, rowOf, cut, Pivots};
 ghost use Rattle.matrix.specs.Workspace.{Takes, Eliminates};
 use crate::FIRST_POINT;
 use cube::POINTS;
@@ -20,9 +20,9 @@ pub struct Taken {
 
 // The first `columns` columns of row `from` are taken: what is left of them is kept if it is not zero.
 fn take_row(ws: &mut [u64], pivots: &mut [u16], kept: usize, from: usize, columns: usize) -> Taken
-    requires { ⌜ (length (now ws) ≡ 8192) × (length (now pivots) ≡ 512) × (kept < 512) × (from < 1024) × Pivots (now pivots) (table (now ws)) kept ⌝ }
-    ensures { λ r. ⌜ Takes (table (now (ws .entry))) (table (now (ws .exit))) kept (r .kept) (cut columns (rowOf (table (now (ws .entry))) from)) (r .additions) ⌝ }
-    ensures { λ r. ⌜ Pivots (now (pivots .exit)) (table (now (ws .exit))) (r .kept) ⌝ }
+    requires { ⌜ (length (now ws) ≡ 8192) × (length (now pivots) ≡ 512) × (kept < 512) × (from < 1024) × Pivots (now pivots) (unpacked (now ws)) kept ⌝ }
+    ensures { λ r. ⌜ Takes (unpacked (now (ws .entry))) (unpacked (now (ws .exit))) kept (r .kept) (cut columns (rowOf (unpacked (now (ws .entry))) from)) (r .additions) ⌝ }
+    ensures { λ r. ⌜ Pivots (now (pivots .exit)) (unpacked (now (ws .exit))) (r .kept) ⌝ }
 {
     copy_columns(ws, kept, from, columns);
     let additions = reduce(ws, pivots, kept, kept);
@@ -36,9 +36,9 @@ fn take_row(ws: &mut [u64], pivots: &mut [u16], kept: usize, from: usize, column
 // the first rows of the workspace, and `pivots` has the pivot of each.
 pub fn eliminate_with(ws: &mut [u64], pivots: &mut [u16], mask: &[u8], columns: usize) -> Taken
     requires { ⌜ (length (now ws) ≡ 8192) × (length (now pivots) ≡ 512) × (length (now mask) ≡ 512) ⌝ }
-    ensures { λ r. ⌜ Eliminates (table (now (ws .entry))) (table (now (ws .exit))) columns (points (now (mask .entry))) (r .kept) (r .additions) ⌝ }
+    ensures { λ r. ⌜ Eliminates (unpacked (now (ws .entry))) (unpacked (now (ws .exit))) columns (points (now (mask .entry))) (r .kept) (r .additions) ⌝ }
     ensures { λ r. ⌜ (r .kept ≤ 512) × (r .additions ≤ 262144) ⌝ }
-    ensures { λ r. ⌜ Pivots (now (pivots .exit)) (table (now (ws .exit))) (r .kept) ⌝ }
+    ensures { λ r. ⌜ Pivots (now (pivots .exit)) (unpacked (now (ws .exit))) (r .kept) ⌝ }
 {
     let mut kept: usize = 0;
     let mut additions: u32 = 0;
@@ -57,7 +57,7 @@ pub fn eliminate_with(ws: &mut [u64], pivots: &mut [u16], mask: &[u8], columns: 
 // The same with pivots of its own.
 pub fn eliminate(ws: &mut [u64], mask: &[u8], columns: usize) -> Taken
     requires { ⌜ (length (now ws) ≡ 8192) × (length (now mask) ≡ 512) ⌝ }
-    ensures { λ r. ⌜ Eliminates (table (now (ws .entry))) (table (now (ws .exit))) columns (points (now (mask .entry))) (r .kept) (r .additions) ⌝ }
+    ensures { λ r. ⌜ Eliminates (unpacked (now (ws .entry))) (unpacked (now (ws .exit))) columns (points (now (mask .entry))) (r .kept) (r .additions) ⌝ }
     ensures { λ r. ⌜ (r .kept ≤ 512) × (r .additions ≤ 262144) ⌝ }
 {
     let mut pivots = [0u16; COLUMNS];

@@ -6,7 +6,7 @@ ghost use lib.Dec.{ltb, leb};
 ghost use lib.ListN.{length, set, take, drop};
 ghost use Rattle.cube.specs.Cube.{size as sizeOf, weight as weightOf};
 ghost use Rattle.cube.specs.Order.{Graded, columns};
-ghost use Rattle.gf2.specs.Packed.{table, digit, number};
+ghost use Rattle.gf2.specs.Packed.{unpacked, digit, number};
 ghost use Rattle.matrix.specs.Matrix.{monomials};
 ghost use Rattle.matrix.specs.Workspace.{exponents as exponentsOf, filled, RowsFrom, Splits};
 use crate::FIRST_POINT;
@@ -95,7 +95,7 @@ fn row_word(exponents: &[u16; 512], from: usize, a: Point) -> u64
 // Row `row` becomes the row of the point `a`.
 fn fill_row(ws: &mut [u64], exponents: &[u16; 512], row: usize, a: Point)
     requires { ⌜ (length (now ws) ≡ 8192) × (length (now exponents) ≡ 512) × (row < 1024) ⌝ }
-    ensures { λ _. ⌜ table (now (ws .exit)) ≡ set (table (now (ws .entry))) row (monomials (now (exponents .entry)) (a .0)) ⌝ }
+    ensures { λ _. ⌜ unpacked (now (ws .exit)) ≡ set (unpacked (now (ws .entry))) row (monomials (now (exponents .entry)) (a .0)) ⌝ }
 {
     let mut k: usize = 0;
     while k < ROW_WORDS {
@@ -127,8 +127,8 @@ fn split_point(n: usize, a: usize) -> Pair
 // The row of the point `a` is put in its place, where those of all points above it stand in theirs: if `a` is the common
 // bits of two of them its row is the common ones of theirs.
 fn fill_point(ws: &mut [u64], exponents: &[u16; 512], n: usize, a: usize)
-    requires { ⌜ (length (now ws) ≡ 8192) × (length (now exponents) ≡ 512) × (n ≤ 9) × (a < sizeOf n) × RowsFrom (now exponents) n (table (now ws)) (a + 1) ⌝ }
-    ensures { λ _. ⌜ table (now (ws .exit)) ≡ set (table (now (ws .entry))) (512 + a) (monomials (now (exponents .entry)) a) ⌝ }
+    requires { ⌜ (length (now ws) ≡ 8192) × (length (now exponents) ≡ 512) × (n ≤ 9) × (a < sizeOf n) × RowsFrom (now exponents) n (unpacked (now ws)) (a + 1) ⌝ }
+    ensures { λ _. ⌜ unpacked (now (ws .exit)) ≡ set (unpacked (now (ws .entry))) (512 + a) (monomials (now (exponents .entry)) a) ⌝ }
 {
     let s = split_point(n, a);
     if a < s.p {
@@ -143,7 +143,7 @@ fn fill_point(ws: &mut [u64], exponents: &[u16; 512], n: usize, a: usize)
 // The row of each point of `n` taps at degree `n` is put in its place.
 pub fn fill_rows(ws: &mut [u64], order: &[u16; 512], n: usize)
     requires { ⌜ (length (now ws) ≡ 8192) × Graded (now order) × (n ≤ 9) ⌝ }
-    ensures { λ _. ⌜ table (now (ws .exit)) ≡ filled (exponentsOf (now (order .entry)) n) n (table (now (ws .entry))) ⌝ }
+    ensures { λ _. ⌜ unpacked (now (ws .exit)) ≡ filled (exponentsOf (now (order .entry)) n) n (unpacked (now (ws .entry))) ⌝ }
 {
     let list = exponents(order, n);
     let mut a = size(n);

@@ -3,8 +3,8 @@ use mathlib.Core.Path.{_≡_}
 use native.Mathlib.Omega.{arith}
 use lib.ListN.{length}
 use Rattle.gf2.specs.Elimination.{pivot}
-use Rattle.gf2.specs.Packed.{table, rowOf}
-use Rattle.gf2.proofs.Table.{length-row}
+use Rattle.gf2.specs.Packed.{unpacked, rowOf}
+use Rattle.gf2.proofs.Rows.{length-row}
 use Rattle.gf2.proofs.Steps.{pivot-zero, pivot-one, pivots-more}
 use Rattle.gf2.proofs.basis.keep.Statement.{statement}
 use Rattle.gf2.proofs.basis.keep.Tie as tie
@@ -12,7 +12,7 @@ use Rattle.gf2.proofs.basis.keep.Tie as tie
 returns : tie.Need-returns
 returns c =
     let s = c .before .before .before .before in
-    let t = table (s .args .ws .now) in
+    let t = unpacked (s .args .ws .now) in
     let k = s .args .kept in
     let n : length (rowOf t k) ≡ 512 = length-row (s .args .ws .now) k (s .pre .0) (omega arith) in
     let e : c .before .pivot .result ≡ pivot (rowOf t k) = c .before .pivot .ensures in
@@ -21,7 +21,7 @@ returns c =
 returns-2 : tie.Need-returns-2
 returns-2 c =
     let s = c .before .before .before .before in
-    let t = table (s .args .ws .now) in
+    let t = unpacked (s .args .ws .now) in
     let k = s .args .kept in
     let n : length (rowOf t k) ≡ 512 = length-row (s .args .ws .now) k (s .pre .0) (omega arith) in
     let e : c .before .pivot .result ≡ pivot (rowOf t k) = c .before .pivot .ensures in

@@ -8,14 +8,14 @@ use lib.ListN.{length, set}
 use lib.Seq.{set-getD}
 use Rattle.gf2.specs.Vector.{entry, add}
 use Rattle.gf2.specs.Elimination.{pivot, count, addIf}
-use Rattle.gf2.specs.Packed.{table, rowOf, Reduces}
-use Rattle.gf2.proofs.Table.{length-table}
+use Rattle.gf2.specs.Packed.{unpacked, rowOf, Reduces}
+use Rattle.gf2.proofs.Rows.{length-rows}
 use Rattle.gf2.proofs.Steps.{reduces-none, reduces-next, other-row}
 use Rattle.gf2.proofs.basis.reduce.Statement.{statement}
 use Rattle.gf2.proofs.basis.reduce.Tie as tie
 
 abbrev Inv-loop : tie.InvT-loop
-Inv-loop ws₀ pivots kept row count₀ j₀ ws count j = (j ≤ kept) × (count ≤ j) × (length ws ≡ 8192) × Reduces j row (table ws₀) (table ws) count
+Inv-loop ws₀ pivots kept row count₀ j₀ ws count j = (j ≤ kept) × (count ≤ j) × (length ws ≡ 8192) × Reduces j row (unpacked ws₀) (unpacked ws) count
 
 abbrev μ-loop : tie.MeasureT-loop
 μ-loop ws₀ pivots kept row count₀ j₀ ws count j = kept - j
@@ -23,7 +23,7 @@ abbrev μ-loop : tie.MeasureT-loop
 loop-holds : tie.Need-loop-holds Inv-loop μ-loop
 loop-holds c =
     let s = c .before .before in
-    (omega arith, omega arith, s .pre .0, reduces-none (table (s .args .ws .now)) (s .args .row))
+    (omega arith, omega arith, s .pre .0, reduces-none (unpacked (s .args .ws .now)) (s .args .row))
 
 cast-c : tie.Need-cast-c Inv-loop μ-loop
 cast-c c =
@@ -47,12 +47,12 @@ unfolding addIf count
 loop-again c =
     let l = c .before .before .before .before .before in
     let s = l .before .before .before in
-    let t₀ = table (s .args .ws .now) in
+    let t₀ = unpacked (s .args .ws .now) in
     let row = s .args .row in
     let j = l .loop .j in
-    let t = table (l .loop .ws) in
+    let t = unpacked (l .loop .ws) in
     let h : j < row = omega arith in
-    let m : row < length t₀ = rw (length-table 1024 (s .args .ws .now)) (s .pre .4) in
+    let m : row < length t₀ = rw (length-rows 1024 (s .args .ws .now)) (s .pre .4) in
     let r = l .loop .inv .3 in
     let same : rowOf t j ≡ rowOf t₀ j = other-row t₀ row j t (l .loop .count) r m j (λ e. omega arith) in
     -- what `entry` found, with the pivot in the place of the number that was read
@@ -62,16 +62,16 @@ loop-again c =
       omega arith,
       omega arith,
       ap length (w .5) ∙ w .2 .kept .0 ∙ l .loop .inv .2,
-      subst (λ n. Reduces (j + 1) row t₀ (table (c .if1 .ws)) n) (sym (w .6))
-          (reduces-next t₀ row j t (l .loop .count) r m true (table (c .if1 .ws)) h (sym (w .0 .taken) ∙ b)
-          (ap table (w .5) ∙ w .2 .ensures ∙ ap (λ v. set t row (add (rowOf t row) v)) same)),
+      subst (λ n. Reduces (j + 1) row t₀ (unpacked (c .if1 .ws)) n) (sym (w .6))
+          (reduces-next t₀ row j t (l .loop .count) r m true (unpacked (c .if1 .ws)) h (sym (w .0 .taken) ∙ b)
+          (ap unpacked (w .5) ∙ w .2 .ensures ∙ ap (λ v. set t row (add (rowOf t row) v)) same)),
     ))
     (λ w. (
       omega arith,
       omega arith,
       ap length (w .1) ∙ l .loop .inv .2,
-      subst (λ n. Reduces (j + 1) row t₀ (table (c .if1 .ws)) n) (add-zero (l .loop .count) ∙ sym (w .2))
-          (reduces-next t₀ row j t (l .loop .count) r m false (table (c .if1 .ws)) h (sym (w .0 .left) ∙ b) (ap table (w .1) ∙ sym (set-getD t row _))),
+      subst (λ n. Reduces (j + 1) row t₀ (unpacked (c .if1 .ws)) n) (add-zero (l .loop .count) ∙ sym (w .2))
+          (reduces-next t₀ row j t (l .loop .count) r m false (unpacked (c .if1 .ws)) h (sym (w .0 .left) ∙ b) (ap unpacked (w .1) ∙ sym (set-getD t row _))),
     ))
     (c .if1 .came)
 
@@ -80,7 +80,7 @@ returns c =
     let l = c .before in
     let s = l .before .before .before in
     let e : l .loop .j ≡ s .args .kept = omega arith in
-    (subst (λ k. Reduces k (s .args .row) (table (s .args .ws .now)) (table (l .loop .ws)) (l .loop .count)) e (l .loop .inv .3), omega arith)
+    (subst (λ k. Reduces k (s .args .row) (unpacked (s .args .ws .now)) (unpacked (l .loop .ws)) (l .loop .count)) e (l .loop .inv .3), omega arith)
 
 pub reduce-spec : {M : Type 1} → statement M
 reduce-spec =

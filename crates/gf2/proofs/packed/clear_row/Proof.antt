@@ -3,9 +3,9 @@ use Prim.Native.Nat.{ℕ, _-_, _*_, _<_, _≤_}
 use native.Mathlib.Omega.{arith}
 use lib.ListN.{length, getD, set, length-set, getD-replicate}
 use lib.Seq.{paste, paste-zero}
-use Rattle.gf2.specs.Packed.{unpack, table, zeroRow, zeros}
+use Rattle.gf2.specs.Packed.{unpack, unpacked, zeroRow, zeros}
 use Rattle.gf2.proofs.Words.{unpack-zero}
-use Rattle.gf2.proofs.Table.{paste-turn, paste-done}
+use Rattle.gf2.proofs.Rows.{paste-turn, paste-done}
 use Rattle.gf2.proofs.packed.clear_row.Statement.{statement}
 use Rattle.gf2.proofs.packed.clear_row.Tie as tie
 
@@ -46,7 +46,7 @@ returns c =
     let l = c .before in
     let s = l .before in
     paste-done (s .args .ws .now) (s .args .row) (zeros 8) (l .loop .ws) (l .loop .k) (l .loop .inv .2) (omega arith) (s .pre .1) (s .pre .0) eight
-    ∙ ap (set (table (s .args .ws .now)) (s .args .row)) row-is
+    ∙ ap (set (unpacked (s .args .ws .now)) (s .args .row)) row-is
 
 pub clear-row-spec : {M : Type 1} → statement M
 clear-row-spec =

@@ -5,9 +5,9 @@ use Prim.Native.Nat.{ℕ, _+_, _-_, _*_, _%_, _^_, _<_, _≤_}
 use native.Mathlib.Omega.{arith}
 use lib.ListN.{length, getD, set, length-set}
 use lib.Seq.{paste, paste-zero}
-use Rattle.gf2.specs.Packed.{table, rowOf, cut}
+use Rattle.gf2.specs.Packed.{unpacked, rowOf, cut}
 use Rattle.gf2.proofs.Cuts.{cuts, length-cuts, getD-cuts, unpack-cuts}
-use Rattle.gf2.proofs.Table.{words, length-words, getD-words, row-at, paste-old, paste-turn, paste-done}
+use Rattle.gf2.proofs.Rows.{words, length-words, getD-words, row-at, paste-old, paste-turn, paste-done}
 use Rattle.gf2.proofs.packed.copy_columns.Statement.{statement}
 use Rattle.gf2.proofs.packed.copy_columns.Tie as tie
 
@@ -33,10 +33,10 @@ module _ (d : List ℕ) (to from columns : ℕ) (l : length d ≡ 8192) (ht : to
 
   -- its end
   done : (ws : List ℕ) (k : ℕ) → ws ≡ paste d (to * 8) (copied d from columns) k → k ≡ 8
-      → table ws ≡ set (table d) to (cut columns (rowOf (table d) from))
+      → unpacked ws ≡ set (unpacked d) to (cut columns (rowOf (unpacked d) from))
   done ws k e h =
       paste-done d to (copied d from columns) ws k e h ht l eight
-      ∙ ap (set (table d) to) (unpack-cuts columns (words d from) ∙ sym (ap (cut columns) (row-at 1024 d from hf)))
+      ∙ ap (set (unpacked d) to) (unpack-cuts columns (words d from) ∙ sym (ap (cut columns) (row-at 1024 d from hf)))
 
 abbrev Inv-loop : tie.InvT-loop
 Inv-loop ws₀ to from columns k₀ ws k = (k ≤ 8) × (length ws ≡ 8192) × (ws ≡ paste ws₀ (to * 8) (copied ws₀ from columns) k)

@@ -5,14 +5,14 @@ use Prim.Native.Nat.{ℕ, _+_, _*_, _/_, _%_, _^_, _<_}
 use native.Mathlib.Omega.{arith}
 use lib.ListN.{getD}
 use Rattle.gf2.specs.Vector.{Row, entry}
-use Rattle.gf2.specs.Packed.{odd, unpack, table, rowOf}
+use Rattle.gf2.specs.Packed.{odd, unpack, unpacked, rowOf}
 use Rattle.gf2.proofs.Words.{entry-unpack}
-use Rattle.gf2.proofs.Table.{words, row-at, getD-words}
+use Rattle.gf2.proofs.Rows.{words, row-at, getD-words}
 use Rattle.gf2.proofs.packed.entry.Statement.{statement}
 use Rattle.gf2.proofs.packed.entry.Tie as tie
 
 -- the bit that is read is the column's entry
-bit-is : (ws : List ℕ) (row c : ℕ) → row < 1024 → c < 512 → odd (getD ws (row * 8 + c / 64) 0 / 2 ^ (c % 64)) ≡ entry (rowOf (table ws) row) c
+bit-is : (ws : List ℕ) (row c : ℕ) → row < 1024 → c < 512 → odd (getD ws (row * 8 + c / 64) 0 / 2 ^ (c % 64)) ≡ entry (rowOf (unpacked ws) row) c
 bit-is ws row c h k =
     let e : c ≡ c / 64 * 64 + c % 64 = omega arith in
     sym (ap (λ (v : Row). entry v c) (row-at 1024 ws row h)

@@ -7,10 +7,10 @@ use lib.ListN.{length, getD, take, drop}
 use lib.Seq.{drop-cons}
 use lib.Count.{trailingZeros, trailing-le}
 use Rattle.gf2.specs.Elimination.{pivot}
-use Rattle.gf2.specs.Packed.{bitsOf, unpack, table, rowOf}
+use Rattle.gf2.specs.Packed.{bitsOf, unpack, unpacked, rowOf}
 use Rattle.gf2.specs.Vector.{Row}
 use Rattle.gf2.proofs.Words.{pivot-word, pivot-zeros}
-use Rattle.gf2.proofs.Table.{row-at}
+use Rattle.gf2.proofs.Rows.{row-at}
 use Rattle.gf2.proofs.packed.pivot.Statement.{statement}
 use Rattle.gf2.proofs.packed.pivot.Tie as tie
 
@@ -42,7 +42,7 @@ unfolding unpack pivot
 none ws row k e = ap (λ (n : ℕ). pivot (unpack (take (8 - n) (drop (row * 8 + k) ws)))) e
 
 abbrev Inv-loop : tie.InvT-loop
-Inv-loop ws row k₀ k = (k ≤ 8) × (pivot (rowOf (table ws) row) ≡ k * 64 + pivot (rest ws row k))
+Inv-loop ws row k₀ k = (k ≤ 8) × (pivot (rowOf (unpacked ws) row) ≡ k * 64 + pivot (rest ws row k))
 
 abbrev μ-loop : tie.MeasureT-loop
 μ-loop ws row k₀ k = 8 - k

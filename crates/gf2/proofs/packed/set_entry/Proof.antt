@@ -9,15 +9,15 @@ use lib.Bits.{bitOr}
 use lib.ListN.{length, getD, set}
 use lib.Pow.{pow-lt}
 use Rattle.gf2.specs.Vector.{Row}
-use Rattle.gf2.specs.Packed.{unpack, table, rowOf}
+use Rattle.gf2.specs.Packed.{unpack, unpacked, rowOf}
 use Rattle.gf2.proofs.Words.{unpack-or}
-use Rattle.gf2.proofs.Table.{words, length-words, getD-words, row-at, table-set}
+use Rattle.gf2.proofs.Rows.{words, length-words, getD-words, row-at, rows-set}
 use Rattle.gf2.proofs.packed.set_entry.Statement.{statement}
 use Rattle.gf2.proofs.packed.set_entry.Tie as tie
 
 -- the bit that is put in is the column's entry
 one-in : (ws : List ℕ) (row c : ℕ) → length ws ≡ 8192 → row < 1024 → c < 512
-    → table (set ws (row * 8 + c / 64) (bitOr (getD ws (row * 8 + c / 64) 0) (1 * 2 ^ (c % 64) % 2 ^ 64))) ≡ set (table ws) row (set (rowOf (table ws) row) c true)
+    → unpacked (set ws (row * 8 + c / 64) (bitOr (getD ws (row * 8 + c / 64) 0) (1 * 2 ^ (c % 64) % 2 ^ 64))) ≡ set (unpacked ws) row (set (rowOf (unpacked ws) row) c true)
 one-in ws row c l h k =
     let e : c / 64 * 64 + c % 64 ≡ c = omega arith in
     let m : c % 64 < 64 = omega arith in
@@ -25,10 +25,10 @@ one-in ws row c l h k =
     let u : List ℕ = words ws row in
     let n : c / 64 < length u = rw (length-words ws row (omega arith)) q in
     let one : 1 * 2 ^ (c % 64) % 2 ^ 64 ≡ 2 ^ (c % 64) = ap (λ (x : ℕ). x % 2 ^ 64) (one-mul (2 ^ (c % 64))) ∙ mod-eq-of-lt (pow-lt m) in
-    ap (λ (x : ℕ). table (set ws (row * 8 + c / 64) (bitOr (getD ws (row * 8 + c / 64) 0) x))) one
-    ∙ table-set 1024 ws row (c / 64) (bitOr (getD ws (row * 8 + c / 64) 0) (2 ^ (c % 64))) h q
-    ∙ ap (λ (x : ℕ). set (table ws) row (unpack (set u (c / 64) (bitOr x (2 ^ (c % 64)))))) (sym (getD-words ws row (c / 64) q))
-    ∙ ap (set (table ws) row) (unpack-or u (c / 64) (c % 64) n m ∙ ap₂ (λ (v : Row) (i : ℕ). set v i true) (sym (row-at 1024 ws row h)) e)
+    ap (λ (x : ℕ). unpacked (set ws (row * 8 + c / 64) (bitOr (getD ws (row * 8 + c / 64) 0) x))) one
+    ∙ rows-set 1024 ws row (c / 64) (bitOr (getD ws (row * 8 + c / 64) 0) (2 ^ (c % 64))) h q
+    ∙ ap (λ (x : ℕ). set (unpacked ws) row (unpack (set u (c / 64) (bitOr x (2 ^ (c % 64)))))) (sym (getD-words ws row (c / 64) q))
+    ∙ ap (set (unpacked ws) row) (unpack-or u (c / 64) (c % 64) n m ∙ ap₂ (λ (v : Row) (i : ℕ). set v i true) (sym (row-at 1024 ws row h)) e)
 
 returns : tie.Need-returns
 returns c =

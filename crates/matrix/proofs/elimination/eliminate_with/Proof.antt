@@ -6,7 +6,7 @@ use native.Mathlib.Omega.{arith}
 use lib.ListN.{length}
 use borrow.Author.Tests.{eq-eqb, ne-eqb}
 use Rattle.gf2.specs.Vector.{Row}
-use Rattle.gf2.specs.Packed.{table, Pivots}
+use Rattle.gf2.specs.Packed.{unpacked, Pivots}
 use Rattle.matrix.specs.Workspace.{Eliminates}
 use Rattle.matrix.proofs.Taking.{pointsTo, eliminates-none, eliminates-yes, eliminates-no}
 use Rattle.matrix.proofs.elimination.eliminate_with.Statement.{statement}
@@ -14,7 +14,7 @@ use Rattle.matrix.proofs.elimination.eliminate_with.Tie as tie
 
 -- the kept rows with their pivots, and what was eliminated
 abbrev State : List Row → ℕ → List ℕ → List ℕ → List ℕ → ℕ → ℕ → Type 0
-State t columns ps ws pivots kept additions = Pivots pivots (table ws) kept × Eliminates t (table ws) columns ps kept additions
+State t columns ps ws pivots kept additions = Pivots pivots (unpacked ws) kept × Eliminates t (unpacked ws) columns ps kept additions
 
 -- equal numbers have the same state
 moved : (t : List Row) (columns : ℕ) (ps : List ℕ) {ws ws′ pivots pivots′ : List ℕ} {kept kept′ additions additions′ : ℕ}
@@ -25,7 +25,7 @@ moved t columns ps e f g h s = rw (e, f, g, h) s
 abbrev Inv-loop : tie.InvT-loop
 Inv-loop ws₀ pivots₀ mask columns kept₀ additions₀ a₀ ws pivots kept additions a =
     (a ≤ 512) × (kept ≤ a) × (additions ≤ a * 512) × (length ws ≡ 8192) × (length pivots ≡ 512)
-    × State (table ws₀) columns (pointsTo mask a) ws pivots kept additions
+    × State (unpacked ws₀) columns (pointsTo mask a) ws pivots kept additions
 
 abbrev μ-loop : tie.MeasureT-loop
 μ-loop ws₀ pivots₀ mask columns kept₀ additions₀ a₀ ws pivots kept additions a = 512 - a
@@ -33,7 +33,7 @@ abbrev μ-loop : tie.MeasureT-loop
 loop-holds : tie.Need-loop-holds Inv-loop μ-loop
 loop-holds c =
     let s = c .before .before .before in
-    let none = eliminates-none (table (s .args .ws .now)) (s .args .columns) (s .args .mask .now) in
+    let none = eliminates-none (unpacked (s .args .ws .now)) (s .args .columns) (s .args .mask .now) in
     (omega arith, omega arith, omega arith, s .pre .0, s .pre .1, (λ j h. absurd (omega arith), none))
 
 take-row-requires : tie.Need-take-row-requires Inv-loop μ-loop
@@ -45,7 +45,7 @@ loop-again : tie.Need-loop-again Inv-loop μ-loop
 loop-again c =
     let l = c .before .before .before in
     let s = l .before .before .before .before in
-    let t = table (s .args .ws .now) in
+    let t = unpacked (s .args .ws .now) in
     let b = s .args .mask .now in
     let a = l .loop .a in
     let i = l .loop .inv in
@@ -53,8 +53,8 @@ loop-again c =
     (λ w.
     let r = w .3 .result in
     let h = w .3 .ensures in
-    let e : Eliminates t (table (w .3 .last .0)) (s .args .columns) (pointsTo b (a + 1)) (r .kept) (l .loop .additions + r .additions) =
-    eliminates-yes t (s .args .columns) b (table (l .loop .ws)) (table (w .3 .last .0)) a (l .loop .kept) (l .loop .additions) (r .kept) (r .additions)
+    let e : Eliminates t (unpacked (w .3 .last .0)) (s .args .columns) (pointsTo b (a + 1)) (r .kept) (l .loop .additions + r .additions) =
+    eliminates-yes t (s .args .columns) b (unpacked (l .loop .ws)) (unpacked (w .3 .last .0)) a (l .loop .kept) (l .loop .additions) (r .kept) (r .additions)
     (i .5 .1) (eq-eqb _ _ (w .0 .taken)) (h .0) in (
       omega arith,
       omega (arith, w .11, h .0 .grows),
@@ -70,7 +70,7 @@ loop-again c =
       ap length (w .1) ∙ i .3,
       ap length (w .2) ∙ i .4,
       moved t (s .args .columns) (pointsTo b (a + 1)) (w .1) (w .2) (w .3) (w .4)
-          (i .5 .0, eliminates-no t (s .args .columns) b (table (l .loop .ws)) a (l .loop .kept) (l .loop .additions) (i .5 .1) (ne-eqb _ _ (w .0 .left))),
+          (i .5 .0, eliminates-no t (s .args .columns) b (unpacked (l .loop .ws)) a (l .loop .kept) (l .loop .additions) (i .5 .1) (ne-eqb _ _ (w .0 .left))),
     ))
     (c .if1 .came)
 
@@ -80,7 +80,7 @@ returns c =
     let s = l .before .before .before .before in
     let b = s .args .mask .now in
     let e : l .loop .a ≡ length b = omega arith in
-    let all = subst (λ a. Eliminates (table (s .args .ws .now)) (table (l .loop .ws)) (s .args .columns) (pointsTo b a) (l .loop .kept) (l .loop .additions)) e in
+    let all = subst (λ a. Eliminates (unpacked (s .args .ws .now)) (unpacked (l .loop .ws)) (s .args .columns) (pointsTo b a) (l .loop .kept) (l .loop .additions)) e in
     (all (l .loop .inv .5 .1), (omega arith, l .loop .inv .5 .0))
 
 pub eliminate-with-spec : {M : Type 1} → statement M

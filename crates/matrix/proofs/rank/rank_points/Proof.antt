@@ -4,28 +4,28 @@ use lib.ListN.{length}
 use Rattle.cube.specs.Mask.{points}
 use Rattle.cube.specs.Order.{Graded, columns}
 use Rattle.cube.proofs.BuiltIn.{graded-is-graded}
-use Rattle.gf2.specs.Packed.{table, zeros}
-use Rattle.gf2.proofs.Table.{length-table}
+use Rattle.gf2.specs.Packed.{unpacked, zeros}
+use Rattle.gf2.proofs.Rows.{length-rows}
 use Rattle.matrix.specs.Workspace.{exponents, filled, Eliminates}
 use Rattle.matrix.specs.Rank.{ranked}
 use Rattle.matrix.proofs.Ranked.{ranked-is}
 use Rattle.matrix.proofs.rank.rank_points.Statement.{statement}
 use Rattle.matrix.proofs.rank.rank_points.Tie as tie
 
--- the table is graded
-graded-table : (c : tie.After-graded-order) → Graded (c .graded-order .result)
-graded-table c = subst Graded (sym (c .graded-order .ensures)) graded-is-graded
+-- the built-in order is graded
+order-graded : (c : tie.After-graded-order) → Graded (c .graded-order .result)
+order-graded c = subst Graded (sym (c .graded-order .ensures)) graded-is-graded
 
 fill-rows-requires : tie.Need-fill-rows-requires
 fill-rows-requires c κs =
     let o = c .before .before in
     let s = o .before .before .before in
-    (s .pre .1, graded-table o, s .pre .2)
+    (s .pre .1, order-graded o, s .pre .2)
 
 column-count-requires : tie.Need-column-count-requires
 column-count-requires c κs =
     let o = c .before .before .before .before .before .before .before in
-    (graded-table o, o .before .before .before .pre .2)
+    (order-graded o, o .before .before .before .pre .2)
 
 returns : tie.Need-returns
 returns c =
@@ -42,9 +42,9 @@ returns c =
     let order = o .graded-order .result in
     let r = e .eliminate .result in
     let ws′ = e .eliminate .last .0 in
-    let h : Eliminates (filled (exponents order n) n (table ws)) (table ws′) (length (columns order n d)) (points b) (r .kept) (r .additions) =
-    subst₂ (λ t m. Eliminates t (table ws′) m (points b) (r .kept) (r .additions)) (f .fill-rows .ensures) (g .column-count .ensures) (e .eliminate .ensures .0) in (
-      ranked-is (graded-table o) b n d (table ws) (table ws′) _ _ (s .pre .2) (s .pre .3) (s .pre .4) (length-table 1024 ws) (length-table 1024 ws′) (e .eliminate .ensures .1 .0) h
+    let h : Eliminates (filled (exponents order n) n (unpacked ws)) (unpacked ws′) (length (columns order n d)) (points b) (r .kept) (r .additions) =
+    subst₂ (λ t m. Eliminates t (unpacked ws′) m (points b) (r .kept) (r .additions)) (f .fill-rows .ensures) (g .column-count .ensures) (e .eliminate .ensures .0) in (
+      ranked-is (order-graded o) b n d (unpacked ws) (unpacked ws′) _ _ (s .pre .2) (s .pre .3) (s .pre .4) (length-rows 1024 ws) (length-rows 1024 ws′) (e .eliminate .ensures .1 .0) h
           ∙ ap (λ x. ranked x n d (points b)) (o .graded-order .ensures),
       k .clear .ensures ∙ ap zeros (e .eliminate .kept .0 ∙ f .fill-rows .kept .0),
     )

@@ -5,7 +5,7 @@ use native.Mathlib.Omega.{arith}
 use lib.ListN.{set}
 use lib.Pow.{pow-mono}
 use Rattle.cube.specs.Cube.{size}
-use Rattle.gf2.specs.Packed.{table, common}
+use Rattle.gf2.specs.Packed.{unpacked, common}
 use Rattle.matrix.specs.Workspace.{Splits}
 use Rattle.matrix.proofs.PointRow.{common-monomials}
 use Rattle.matrix.proofs.rows.fill_point.Statement.{statement}
@@ -40,7 +40,7 @@ returns c =
     let h = split p in
     let rows = s .pre .4 in
     r .common-row .ensures
-    ∙ ap (set (table (s .args .ws .now)) (512 + a))
+    ∙ ap (set (unpacked (s .args .ws .now)) (512 + a))
     (ap₂ common (rows x (omega (arith, i1 .if1 .taken)) (h .inside-p)) (rows y (omega (arith, i2 .if2 .taken)) (h .inside-q))
     ∙ common-monomials (s .args .exponents .now) x y a (h .common))
 

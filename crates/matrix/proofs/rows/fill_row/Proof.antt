@@ -6,9 +6,9 @@ use native.Mathlib.Omega.{arith}
 use lib.ListN.{length, getD, set, take, drop, length-set, length-map}
 use lib.Seq.{paste, paste-zero}
 use Rattle.cube.specs.Cube.{within}
-use Rattle.gf2.specs.Packed.{table, number, pack}
+use Rattle.gf2.specs.Packed.{unpacked, number, pack}
 use Rattle.gf2.proofs.Packing.{length-pack, pack-at, unpack-pack}
-use Rattle.gf2.proofs.Table.{paste-turn, paste-done}
+use Rattle.gf2.proofs.Rows.{paste-turn, paste-done}
 use Rattle.matrix.specs.Matrix.{monomials}
 use Rattle.matrix.proofs.Maps.{map-take, map-drop}
 use Rattle.matrix.proofs.rows.fill_row.Statement.{statement}
@@ -56,7 +56,7 @@ returns c =
     let a = s .args .a .0 in
     let n : length (monomials xs a) ≡ 8 * 64 = length-map xs (λ u. within u a) ∙ s .pre .1 in
     paste-done (s .args .ws .now) (s .args .row) (numbers xs a) (l .loop .ws) (l .loop .k) (l .loop .inv .2) (omega arith) (s .pre .2) (s .pre .0) (length-pack 8 (monomials xs a))
-    ∙ ap (set (table (s .args .ws .now)) (s .args .row)) (unpack-pack 8 (monomials xs a) n)
+    ∙ ap (set (unpacked (s .args .ws .now)) (s .args .row)) (unpack-pack 8 (monomials xs a) n)
 
 pub fill-row-spec : {M : Type 1} → statement M
 fill-row-spec =

@@ -4,8 +4,8 @@ use Prim.Native.Nat.{_+_, _-_, _≤_}
 use native.Mathlib.Omega.{arith}
 use lib.ListN.{length}
 use Rattle.cube.specs.Cube.{size}
-use Rattle.gf2.specs.Packed.{table, rowOf}
-use Rattle.gf2.proofs.Table.{length-table}
+use Rattle.gf2.specs.Packed.{unpacked, rowOf}
+use Rattle.gf2.proofs.Rows.{length-rows}
 use Rattle.matrix.specs.Workspace.{filled}
 use Rattle.matrix.proofs.Listing.{length-exponents}
 use Rattle.matrix.proofs.Filling.{filledFrom, filled-none, filled-next, filled-there, filled-all}
@@ -13,7 +13,7 @@ use Rattle.matrix.proofs.rows.fill_rows.Statement.{statement}
 use Rattle.matrix.proofs.rows.fill_rows.Tie as tie
 
 abbrev Inv-loop : tie.InvT-loop
-Inv-loop ws₀ order n list a₀ ws a = (a ≤ size n) × (length ws ≡ 8192) × (table ws ≡ filledFrom list n (table ws₀) a)
+Inv-loop ws₀ order n list a₀ ws a = (a ≤ size n) × (length ws ≡ 8192) × (unpacked ws ≡ filledFrom list n (unpacked ws₀) a)
 
 abbrev μ-loop : tie.MeasureT-loop
 μ-loop ws₀ order n list a₀ ws a = a
@@ -22,7 +22,7 @@ loop-holds : tie.Need-loop-holds Inv-loop μ-loop
 loop-holds c =
     let x = c .before in
     let s = x .before .before in
-    let t = table (s .args .ws .now) in
+    let t = unpacked (s .args .ws .now) in
     let all = c .size .ensures .0 (s .pre .2) in
     (omega (arith, all), s .pre .0, filled-none (x .exponents .result) (s .args .n) t ∙ ap (filledFrom (x .exponents .result) (s .args .n) t) (sym all))
 
@@ -33,9 +33,9 @@ fill-point-requires c κs =
     let s = x .before .before in
     let n = s .args .n in
     let us = x .exponents .result in
-    let t = table (s .args .ws .now) in
+    let t = unpacked (s .args .ws .now) in
     let a = l .loop .a in
-    let rows = filled-there us n (s .pre .2) t (length-table 1024 (s .args .ws .now)) a (l .loop .inv .0) in (
+    let rows = filled-there us n (s .pre .2) t (length-rows 1024 (s .args .ws .now)) a (l .loop .inv .0) in (
       l .loop .inv .1,
       ap length (x .exponents .ensures) ∙ length-exponents (s .pre .1) n,
       s .pre .2,
@@ -51,12 +51,12 @@ loop-again c =
     let s = x .before .before in
     let n = s .args .n in
     let us = x .exponents .result in
-    let t = table (s .args .ws .now) in
+    let t = unpacked (s .args .ws .now) in
     let a = l .loop .a in
     let e : a ≡ a - 1 + 1 = omega arith in (
       omega arith,
       f .fill-point .kept .0 ∙ l .loop .inv .1,
-      filled-next us n (s .pre .2) t (length-table 1024 (s .args .ws .now)) (table (l .loop .ws)) (table (f .fill-point .last .0)) (a - 1) (omega arith)
+      filled-next us n (s .pre .2) t (length-rows 1024 (s .args .ws .now)) (unpacked (l .loop .ws)) (unpacked (f .fill-point .last .0)) (a - 1) (omega arith)
           (l .loop .inv .2 ∙ ap (filledFrom us n t) e) (f .fill-point .ensures),
     )
 
@@ -67,7 +67,7 @@ returns c =
     let s = x .before .before in
     let n = s .args .n in
     let us = x .exponents .result in
-    let t = table (s .args .ws .now) in
+    let t = unpacked (s .args .ws .now) in
     let e : l .loop .a ≡ 0 = omega arith in
     l .loop .inv .2 ∙ ap (filledFrom us n t) e ∙ filled-all us n t ∙ ap (λ y. filled y n t) (x .exponents .ensures)
 
