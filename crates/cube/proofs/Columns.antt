@@ -15,10 +15,10 @@ use lib.Dec.{ltb, leb}
 use lib.ListN.{length, getD, take}
 use lib.Pow.{pow-mono}
 use borrow.Author.Tests.{ltb-true, leb-true, leb-false, lt-ltb, le-leb, lt-leb}
-use Rattle.cube.specs.Numbers.{consIf, filter}
+use Rattle.cube.specs.Numbers.{consIf, filter, Inside}
 use Rattle.cube.specs.Cube.{size, weight}
 use Rattle.cube.specs.Order.{Graded, columns}
-use Rattle.cube.proofs.Listed.{member-place, filter-cases, member-filter, filter-filter, filter-all, length-filter, Distinct, Inside, distinct-places, distinct-filter, member-all}
+use Rattle.cube.proofs.Listed.{member-place, filter-cases, member-filter, filter-filter, filter-all, length-filter, Distinct, distinct-places, distinct-filter, member-all}
 
 -- weights never fall along the list
 abbrev Sorted : List ℕ → Type 0

@@ -11,7 +11,6 @@
 --   length-filter     no more are kept than there are
 --   filter-snoc       what a test keeps of a list with one number more at its end
 --   Distinct xs       no number stands twice in the list
---   Inside m xs       each number of the list is below m
 --   distinct-places   a list whose places hold different numbers is distinct
 --   distinct-filter   what a test keeps of a distinct list is distinct
 --   count-listed      a distinct list of numbers below m is as long as the count of its numbers
@@ -25,7 +24,7 @@ use native.Mathlib.Omega.{arith}
 use lib.Dec.{eqb}
 use lib.ListN.{length, getD}
 use borrow.Author.Tests.{eqb-true, eq-eqb}
-use Rattle.cube.specs.Numbers.{consIf, filter, lists}
+use Rattle.cube.specs.Numbers.{consIf, filter, lists, Inside}
 use Rattle.cube.proofs.Count.{countBelow, count-none, count-more, count-full}
 
 -- both of two tests hold
@@ -149,10 +148,6 @@ filter-snoc t (y ∷ xs) x = go (t y) (filter-snoc t xs x)
 abbrev pub Distinct : List ℕ → Type 0
 Distinct [] = Unit {0}
 Distinct (x ∷ xs) = (¬ List·Memᴰ x xs) × Distinct xs
-
--- each number is below m
-abbrev pub Inside : ℕ → List ℕ → Type 0
-Inside m xs = (u : ℕ) → List·Memᴰ u xs → u < m
 
 -- a list whose places hold different numbers is distinct
 pub distinct-places : (xs : List ℕ) → ((i j : ℕ) → i < length xs → j < length xs → getD xs i 0 ≡ getD xs j 0 → i ≡ j) → Distinct xs

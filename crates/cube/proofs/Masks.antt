@@ -28,10 +28,10 @@ use native.Mathlib.Numerals.{add-one}
 use lib.Dec.{eqb, leb}
 use lib.ListN.{length, getD, List·getD-eq-default}
 use borrow.Author.Tests.{eqb-true, leb-true, eq-eqb, ne-eqb, le-leb}
-use Rattle.cube.specs.Numbers.{upFrom, below, consIf, filter}
+use Rattle.cube.specs.Numbers.{upFrom, below, consIf, filter, Inside}
 use Rattle.cube.specs.Cube.{size}
 use Rattle.cube.specs.Mask.{bitsThenZeros, wellFormed, member, marked, points, byte, mask}
-use Rattle.cube.proofs.Listed.{and-both, Inside, member-filter, filter-snoc}
+use Rattle.cube.proofs.Listed.{and-both, member-filter, filter-snoc}
 
 -- the numbers from one on
 pub member-from : (u k v : ℕ) → List·Memᴰ v (upFrom u k) ↔ ((u ≤ v) × (v < u + k))

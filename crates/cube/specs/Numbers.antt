@@ -5,9 +5,10 @@
 --   filter t xs      the members of a list that pass a test, in order
 --   lists xs u       whether the number u stands in the list xs, as a test
 --   isEmpty xs       whether a list has no member
+--   Inside m xs      each number of the list is below m
 use mathlib.Core.Bool.{Bool, true, false, _||_}
-use mathlib.Core.List.{List, [], _∷_}
-use Prim.Native.Nat.{ℕ, zero, suc}
+use mathlib.Core.List.{List, [], _∷_, List·Memᴰ}
+use Prim.Native.Nat.{ℕ, zero, suc, _<_}
 use lib.Dec.{eqb}
 
 -- the k numbers from u on
@@ -39,3 +40,7 @@ lists (x ∷ xs) u = eqb x u || lists xs u
 unfoldable pub isEmpty : List ℕ → Bool
 isEmpty [] = true
 isEmpty (x ∷ xs) = false
+
+-- each number of the list is below m
+abbrev pub Inside : ℕ → List ℕ → Type 0
+Inside m xs = (u : ℕ) → List·Memᴰ u xs → u < m

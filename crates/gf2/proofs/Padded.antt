@@ -3,8 +3,16 @@
 --   entry-padded       the entries are those of the row
 --   cut-padded         zeros from a column on: the first columns, continued by zeros
 --   append-padded      the row with zeros behind it
+--   add-nil            a row added to none
+--   add-padded         sums of rows continued by zeros
+--   length-add         a sum is as long as the longer of its terms
+--   pivot-padded       the pivot stays
+--   zero-padded        a row continued by zeros is zero just if the row is
 --   reduce-padded      a row continued by zeros is reduced alike
---   eliminate-padded   rows continued by zeros: the kept rows are the same, continued by zeros, and there are as many additions
+--   reduce-fits        what is left of a row has no more columns
+--   widened m e        an elimination with its kept rows continued by zeros
+--   eliminate-padded   rows continued by zeros: the kept rows are the same, continued by zeros, and all else is the same
+--   kept-fits          the kept rows have no more columns than the rows
 --   take-points-same   elimination sees only the rows of its points
 use mathlib.Core.Path.{_≡_, refl, ap, _∙_}
 use mathlib.Core.Bool.{Bool, true, false, xor, not, _&&_, false≢true}
@@ -62,13 +70,13 @@ append-padded (suc m) (x ∷ v) l =
     rw e (ap (λ w. x ∷ w) (append-padded m v (omega arith)))
 
 -- a row added to none
-add-nil : (v : Row) → add v [] ≡ v
+pub add-nil : (v : Row) → add v [] ≡ v
 unfolding add
 add-nil [] = refl
 add-nil (x ∷ v) = refl
 
 -- sums of rows continued by zeros
-add-padded : (m : ℕ) (v w : Row) → add (padded m v) (padded m w) ≡ padded m (add v w)
+pub add-padded : (m : ℕ) (v w : Row) → add (padded m v) (padded m w) ≡ padded m (add v w)
 unfolding padded add
 add-padded zero v w = refl
 add-padded (suc m) [] [] = rw xor-self (ap (λ u. false ∷ u) (add-padded m [] []))
@@ -83,7 +91,7 @@ add-if-padded true m v w = add-padded m v w
 add-if-padded false m v w = refl
 
 -- a sum is as long as the longer of its terms
-length-add : (m : ℕ) (v w : Row) → length v ≤ m → length w ≤ m → length (add v w) ≤ m
+pub length-add : (m : ℕ) (v w : Row) → length v ≤ m → length w ≤ m → length (add v w) ≤ m
 unfolding add
 length-add m [] w h l = l
 length-add m (x ∷ v) [] h l = h
@@ -97,7 +105,7 @@ length-add-if true m v w h l = length-add m v w h l
 length-add-if false m v w h l = h
 
 -- the pivot stays
-pivot-padded : (m : ℕ) (v : Row) → Fits m v → pivot (padded m v) ≡ pivot v
+pub pivot-padded : (m : ℕ) (v : Row) → Fits m v → pivot (padded m v) ≡ pivot v
 unfolding padded pivot
 pivot-padded m [] f = absurd (false≢true (f .1))
 pivot-padded zero (x ∷ v) f = absurd (omega arith)
@@ -105,7 +113,7 @@ pivot-padded (suc m) (true ∷ v) f = refl
 pivot-padded (suc m) (false ∷ v) f = ap suc (pivot-padded m v (omega arith, f .1))
 
 -- a row continued by zeros is zero just if the row is
-zero-padded : (m : ℕ) (v : Row) → length v ≤ m → isZero (padded m v) ≡ isZero v
+pub zero-padded : (m : ℕ) (v : Row) → length v ≤ m → isZero (padded m v) ≡ isZero v
 unfolding padded isZero
 zero-padded zero [] l = refl
 zero-padded zero (x ∷ v) l = absurd (omega arith)
@@ -123,58 +131,59 @@ reduce-padded m (r ∷ kept) v f l =
     rw (pivot-padded m r (f .0), entry-padded m v (pivot r) l, add-if-padded, next)
 
 -- what is left of a row has no more columns
-reduce-fits : (m : ℕ) (kept : List Row) (v : Row) → Each (Fits m) kept → length v ≤ m → length (reduce kept v .left) ≤ m
+pub reduce-fits : (m : ℕ) (kept : List Row) (v : Row) → Each (Fits m) kept → length v ≤ m → length (reduce kept v .left) ≤ m
 unfolding reduce
 reduce-fits m [] v f l = l
 reduce-fits m (r ∷ kept) v f l = reduce-fits m kept _ (f .1) (length-add-if _ m v r l (f .0 .0))
+
+-- an elimination with its kept rows continued by zeros
+abbrev pub widened : ℕ → Elimination → Elimination
+widened m e = record { kept = map (padded m) (e .kept); combinations = e .combinations; points = e .points; additions = e .additions }
 
 module _ (m : ℕ) (row : ℕ → Row) (short : (a : ℕ) → length (row a) ≤ m) where
   -- the rows continued by zeros
   abbrev wide : ℕ → Row
   wide a = padded m (row a)
 
-  -- the same elimination, of the rows and of the rows continued by zeros
-  record Alike (e e′ : Elimination) : Type 0 where
-    fits : Each (Fits m) (e .kept)
-    kept : e′ .kept ≡ map (padded m) (e .kept)
-    additions : e′ .additions ≡ e .additions
-
   -- one point is taken alike
-  alike-point : (e e′ : Elimination) → Alike e e′ → (a : ℕ) → Alike (takePoint row e a) (takePoint wide e′ a)
+  take-point-padded : (e : Elimination) → Each (Fits m) (e .kept) → (a : ℕ)
+      → Each (Fits m) (takePoint row e a .kept) × (takePoint wide (widened m e) a ≡ widened m (takePoint row e a))
   unfolding takePoint keepUnless
-  alike-point e e′ h a = go (isZero (r .left)) refl
+  take-point-padded e h a = go (isZero (r .left)) refl
     where
       r : Reduced
       r = reduce (e .kept) (row a)
 
-      wide-r : reduce (e′ .kept) (wide a) ≡ record { left = padded m (r .left); added = r .added }
-      wide-r = rw (h .kept) (reduce-padded m (e .kept) (row a) (h .fits) (short a))
+      wide-r : reduce (map (padded m) (e .kept)) (wide a) ≡ record { left = padded m (r .left); added = r .added }
+      wide-r = reduce-padded m (e .kept) (row a) h (short a)
 
       fits : length (r .left) ≤ m
-      fits = reduce-fits m (e .kept) (row a) (h .fits) (short a)
+      fits = reduce-fits m (e .kept) (row a) h (short a)
 
-      go : (z : Bool) → isZero (r .left) ≡ z → Alike (takePoint row e a) (takePoint wide e′ a)
-      go true z = record {
-        fits = rw z (h .fits);
-        kept = rw (wide-r, zero-padded m (r .left) fits, z) (h .kept);
-        additions = rw (wide-r, h .additions);
-      }
-      go false z = record {
-        fits = rw z (each-append (Fits m) (e .kept) (r .left ∷ []) (h .fits) ((fits, entry-pivot (r .left) z), tt));
-        kept = rw (wide-r, zero-padded m (r .left) fits, z, h .kept, map-append);
-        additions = rw (wide-r, h .additions);
-      }
+      go : (z : Bool) → isZero (r .left) ≡ z → Each (Fits m) (takePoint row e a .kept) × (takePoint wide (widened m e) a ≡ widened m (takePoint row e a))
+      go true z = (rw z h, rw (wide-r, zero-padded m (r .left) fits, z) refl)
+      go false z = (
+        rw z (each-append (Fits m) (e .kept) (r .left ∷ []) h ((fits, entry-pivot (r .left) z), tt)),
+        rw (wide-r, zero-padded m (r .left) fits, z, map-append) refl,
+      )
 
   -- more points are taken alike
-  alike-points : (e e′ : Elimination) → Alike e e′ → (ps : List ℕ) → Alike (takePoints row e ps) (takePoints wide e′ ps)
+  take-points-padded : (e : Elimination) → Each (Fits m) (e .kept) → (ps : List ℕ)
+      → Each (Fits m) (takePoints row e ps .kept) × (takePoints wide (widened m e) ps ≡ widened m (takePoints row e ps))
   unfolding takePoints
-  alike-points e e′ h [] = h
-  alike-points e e′ h (a ∷ ps) = alike-points (takePoint row e a) (takePoint wide e′ a) (alike-point e e′ h a) ps
+  take-points-padded e h [] = (h, refl)
+  take-points-padded e h (a ∷ ps) =
+      let one = take-point-padded e h a in
+      let more = take-points-padded (takePoint row e a) (one .0) ps in
+      (more .0, ap (λ x. takePoints wide x ps) (one .1) ∙ more .1)
 
-  -- the kept rows are the same, continued by zeros, and there are as many additions
-  pub eliminate-padded : (ps : List ℕ)
-      → (eliminate wide ps .kept ≡ map (padded m) (eliminate row ps .kept)) × (eliminate wide ps .additions ≡ eliminate row ps .additions)
-  eliminate-padded ps = let h = alike-points nothing nothing (record { fits = tt; kept = refl; additions = refl }) ps in (h .kept, h .additions)
+  -- the kept rows are the same, continued by zeros, and all else is the same
+  pub eliminate-padded : (ps : List ℕ) → eliminate wide ps ≡ widened m (eliminate row ps)
+  eliminate-padded ps = take-points-padded nothing tt ps .1
+
+  -- the kept rows have no more columns, and ones at their pivots
+  pub kept-fits : (ps : List ℕ) → Each (Fits m) (eliminate row ps .kept)
+  kept-fits ps = take-points-padded nothing tt ps .0
 
 -- elimination sees only the rows of its points
 pub take-points-same : (row row′ : ℕ → Row) (e : Elimination) (ps : List ℕ) → Each (λ a. row a ≡ row′ a) ps → takePoints row e ps ≡ takePoints row′ e ps

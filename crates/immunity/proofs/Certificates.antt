@@ -8,9 +8,9 @@ use mathlib.Core.List.{List, [], List·Memᴰ}
 use Prim.Native.Nat.{ℕ, _≤_, _<_}
 use native.Mathlib.Omega.{arith}
 use lib.ListN.{length-map}
-use Rattle.cube.specs.Numbers.{below, lists}
+use Rattle.cube.specs.Numbers.{below, lists, Inside}
 use Rattle.cube.specs.Mask.{points}
-use Rattle.cube.proofs.Listed.{lists-member, not-listed, Inside}
+use Rattle.cube.proofs.Listed.{lists-member, not-listed}
 use Rattle.cube.proofs.Masks.{length-from}
 use Rattle.gf2.specs.Vector.{entry, Same, Each, SumOf}
 use Rattle.gf2.specs.Points.{Rising, Expresses}

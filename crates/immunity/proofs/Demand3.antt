@@ -11,12 +11,12 @@ use mathlib.Core.Option.{some}
 use Prim.Native.Nat.{ℕ, zero, suc, _≤_}
 use native.Mathlib.Omega.{arith}
 use lib.Pow.{pow-mono}
+use Rattle.cube.specs.Numbers.{Inside}
 use Rattle.cube.specs.Cube.{size}
 use Rattle.cube.specs.Mask.{member, points, mask}
 use Rattle.cube.specs.Order.{Graded}
 use Rattle.cube.specs.BuiltIn.{graded}
 use Rattle.cube.proofs.Taps.{taps-range}
-use Rattle.cube.proofs.Listed.{Inside}
 use Rattle.cube.proofs.BuiltIn.{graded-is-graded}
 use Rattle.cube.proofs.Masks.{points-inside, mask-member}
 use Rattle.polynomial.specs.Polynomial.{Polynomial, HasDegree}

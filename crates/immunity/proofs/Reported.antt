@@ -15,11 +15,11 @@ use native.Mathlib.Decide.{decLt}
 use lib.Dec.{eqb}
 use lib.ListN.{getD}
 use borrow.Author.Tests.{eqb-true, eq-eqb, ne-eqb, not-false}
-use Rattle.cube.specs.Numbers.{below}
+use Rattle.cube.specs.Numbers.{below, Inside}
 use Rattle.cube.specs.Cube.{size}
 use Rattle.cube.specs.Mask.{points}
 use Rattle.cube.specs.Order.{Graded}
-use Rattle.cube.proofs.Listed.{Inside, member-filter}
+use Rattle.cube.proofs.Listed.{member-filter}
 use Rattle.cube.proofs.Masks.{member-from}
 use Rattle.gf2.specs.Vector.{Each}
 use Rattle.gf2.proofs.Each.{member-each}

@@ -8,6 +8,7 @@ pub mod Splitting
 pub mod Listing
 pub mod Filling
 pub mod Taking
+pub mod Stored
 pub mod Ranked
 pub mod Checks
 pub mod RankOf
