@@ -23,7 +23,7 @@ use Rattle.gf2.proofs.Each.{each-map, each-map₂, each-at, at-each}
 use Rattle.gf2.proofs.Dot.{dot-comm, linear-same, dot-apart, dot-zero, entry-linear, dot-linear}
 use Rattle.gf2.proofs.Chosen.{entry-total}
 use Rattle.gf2.proofs.Sums.{linear-sum}
-use Rattle.gf2.proofs.Solve.{flip-other, dot-flip, flip-later}
+use Rattle.gf2.proofs.BackSubstitution.{flip-other, dot-flip, flip-later}
 use Rattle.gf2.proofs.Kept.{kept-echelon, kept-sums, rows-sums}
 
 -- a parity's first column

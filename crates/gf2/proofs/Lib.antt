@@ -15,12 +15,13 @@ pub mod Eliminate
 pub mod Kept
 pub mod Among
 pub mod Combinations
-pub mod Solve
+pub mod BackSubstitution
 pub mod Columns
 pub mod Witness
 pub mod Padded
 pub mod Bitwise
 pub mod Words
+pub mod Parity
 pub mod Cuts
 pub mod Packing
 pub mod Rows

@@ -16,7 +16,7 @@ use Rattle.gf2.proofs.Dot.{dot-add}
 use Rattle.gf2.proofs.Duality.{orthogonal-sum}
 use Rattle.gf2.proofs.Reducing.{reduce-sum, reduce-echelon}
 use Rattle.gf2.proofs.Kept.{eliminate-snoc, kept-echelon, rows-sums, kept-sums, sum-reduced}
-use Rattle.gf2.proofs.Solve.{solve-last-separates, solve-last-pivots, solve-last-unique}
+use Rattle.gf2.proofs.BackSubstitution.{solve-last-separates, solve-last-pivots, solve-last-unique}
 use Rattle.gf2.proofs.Columns.{pivot-new}
 
 module _ (row : ℕ → Row) (ps : List ℕ) (a : ℕ) (new : ¬ SumOf (map row ps) (row a)) where

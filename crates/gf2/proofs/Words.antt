@@ -1,5 +1,6 @@
 -- The row of a list of numbers: reading a column, the first one, putting a one in, zeros.
 --   length-unpack   a number holds 64 columns
+--   past-first      a place past the first number
 --   entry-unpack    a column is a bit of a number
 --   pivot-word      a number with a one holds the first one of the row that it begins
 --   pivot-zeros     a number that is zero is passed
@@ -31,7 +32,7 @@ length-unpack [] = refl
 length-unpack (w ∷ u) = length-append (bitsOf 64 w) (unpack u) ∙ ap₂ (λ m n. m + n) (length-bits 64 w) (length-unpack u) ∙ omega arith
 
 -- a place past the first number
-past-first : (w : ℕ) (q r : ℕ) → suc q * 64 + r ≡ length (bitsOf 64 w) + (q * 64 + r)
+pub past-first : (w : ℕ) (q r : ℕ) → suc q * 64 + r ≡ length (bitsOf 64 w) + (q * 64 + r)
 past-first w q r = rw length-bits (omega arith)
 
 -- bit i of a number

@@ -2,6 +2,7 @@
 // nothing of filters: the rows are any rows.
 pub mod packed; // packed.rt: the rows of the workspace, one row at a time
 pub mod basis; // basis.rt: the kept rows, a basis of the span of the rows taken
+pub mod solve; // solve.rt: back substitution, a row with given parities against the kept rows
 
 // The bits of a number of the workspace.
 pub const WORD_BITS: usize = 64;

@@ -10,6 +10,8 @@
 --   solve-last-separates   solveLast is odd with the last row only
 --   solve-last-pivots      the ones of solveLast stand at pivots
 --   solve-last-unique      solveLast is the only row at pivots that is odd with the last row only
+--   solve-last-first       for no rows before the last: a zero row, its pivot changed
+--   solve-last-next        for one row more, in front: its pivot is changed where its parity is odd; only the entries matter
 use mathlib.Core.Path.{_≡_, refl, sym, ap, _∙_}
 use mathlib.Core.Logic.{_≢_, ⊎-elim}
 use mathlib.Core.Bool.{Bool, true, false, xor, _&&_, and-true, and-false, false≢true}
@@ -23,7 +25,7 @@ use Rattle.gf2.specs.Elimination.{pivot, Echelon}
 use Rattle.gf2.specs.Solve.{flip, solve, solveLast}
 use Rattle.gf2.proofs.Bits.{bits, xor-false, false-xor, xor-self, xor-equal, xor-true, not-one}
 use Rattle.gf2.proofs.Each.{each-map, each-map₂, each-append, map-each}
-use Rattle.gf2.proofs.Dot.{entry-add, add-dot, dot-comm, dot-zero, dot-unit, entry-unit, entry-unit-other}
+use Rattle.gf2.proofs.Dot.{entry-add, add-dot, dot-comm, dot-zero, dot-unit, entry-unit, entry-unit-other, linear-same, dot-linear}
 
 module _ (b : Bool) (x : Row) (c : ℕ) where
   -- the entries where column c is changed, or nothing
@@ -130,3 +132,17 @@ module _ (rs : List Row) (v : Row) (ech : Echelon (rs ++ (v ∷ []))) where
       same : Each (λ r. dot x r ≡ dot (solveLast rs v) r) (rs ++ (v ∷ []))
       same = each-append (λ r. dot x r ≡ dot (solveLast rs v) r) rs (v ∷ [])
           (each-map₂ (λ r p q. p ∙ sym q) rs (odd .0) (solve-last-separates .0)) (odd .1 ∙ sym (solve-last-separates .1), tt)
+
+-- for no rows before the last: a zero row, its pivot changed
+pub solve-last-first : (x v : Row) → Zero x → Same (flip true x (pivot v)) (solveLast [] v)
+unfolding solve flip dot xor add
+solve-last-first x v z c = entry-add x (unit (pivot v)) c ∙ simp (z c, false-xor)
+
+-- for one row more, in front: its pivot is changed where its parity is odd
+pub solve-last-next : (x r : Row) (rs : List Row) (v : Row) (b : Bool) → Same x (solveLast rs v) → b ≡ dot x r
+    → Same (flip b x (pivot r)) (solveLast (r ∷ rs) v)
+unfolding solve
+solve-last-next x r rs v b h e c =
+    let y : Row = solveLast rs v in
+    let same : b ≡ xor false (dot y r) = e ∙ dot-comm x r ∙ linear-same (dot-linear r) x y h ∙ dot-comm r y ∙ sym (false-xor (dot y r)) in
+    entry-flip b x (pivot r) c ∙ rw (h c, same) (sym (entry-flip (xor false (dot y r)) y (pivot r) c))
