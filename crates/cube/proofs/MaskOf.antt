@@ -2,18 +2,22 @@
 --   length-mask        it has 512 bytes
 --   mask-well-formed   it obeys the 0/1/0 rule where only points of n taps pass
 --   filter-same        tests that agree on a list keep the same of it
+--   mark-mask          zeros that are marked at numbers are the mask of the numbers
 --   points-mask        its points are the numbers below 512 that pass
-use mathlib.Core.Path.{_≡_, refl, ap, _∙_}
+use mathlib.Core.Path.{_≡_, refl, sym, ap, _∙_}
 use mathlib.Core.Logic.{_⊎_, inl, inr}
-use mathlib.Core.Bool.{Bool, true, false}
+use mathlib.Core.Bool.{Bool, true, false, _||_}
 use mathlib.Core.List.{List, [], _∷_, List·Memᴰ, List·Memᴰ·head, List·Memᴰ·tail}
 use Prim.Native.Nat.{ℕ, _≤_, _<_}
 use native.Mathlib.Omega.{arith}
 use native.Mathlib.Decide.{decLt}
-use lib.ListN.{length, getD, length-map, List·getD-eq-default}
-use Rattle.cube.specs.Numbers.{below, consIf, filter}
+use lib.Dec.{eqb}
+use lib.ListN.{length, getD, set, replicate, length-map, length-set, length-replicate, getD-replicate, List·getD-eq-default}
+use lib.Seq.{getD-set-same, getD-set-other, ext-getD}
+use borrow.Author.Tests.{eqb-true, eqb-false}
+use Rattle.cube.specs.Numbers.{below, consIf, filter, lists}
 use Rattle.cube.specs.Cube.{size}
-use Rattle.cube.specs.Mask.{wellFormed, member, points, byte, mask}
+use Rattle.cube.specs.Mask.{wellFormed, member, points, byte, mark, mask}
 use Rattle.cube.proofs.Masks.{member-from, length-from, value-at, bytes-formed, mask-member}
 
 -- it has 512 bytes
@@ -43,6 +47,46 @@ mask-well-formed n t h = bytes-formed (size n) (mask t) (λ i l. low i (mask-byt
     high i l true q e = absurd (omega (arith, h i q))
     high i l false q (inl e) = rw q at e
     high i l false q (inr e) = e
+
+-- 1 where a bit is set, else another byte
+abbrev oneOr : Bool → ℕ → ℕ
+oneOr true x = 1
+oneOr false x = x
+
+-- the byte at a place: 1 for a marked number, else as it was
+mark-at : (us b : List ℕ) (a : ℕ) → a < length b → getD (mark us b) a 0 ≡ oneOr (lists us a) (getD b a 0)
+unfolding mark lists
+mark-at [] b a h = refl
+mark-at (u ∷ us) b a h = mark-at us (set b u 1) a (rw length-set h) ∙ go (eqb u a) refl (lists us a)
+  where
+    go : (t : Bool) → eqb u a ≡ t → (c : Bool) → oneOr c (getD (set b u 1) a 0) ≡ oneOr (t || c) (getD b a 0)
+    go true e true = refl
+    go true e false = rw (eqb-true u a e) (getD-set-same b a 1 0 h)
+    go false e true = refl
+    go false e false = getD-set-other b u a 1 0 (λ q. eqb-false u a e (sym q))
+
+-- marking changes no length
+length-mark : (us b : List ℕ) → length (mark us b) ≡ length b
+unfolding mark
+length-mark [] b = refl
+length-mark (u ∷ us) b = length-mark us (set b u 1) ∙ length-set b u 1
+
+-- zeros that are marked at numbers are the mask of the numbers
+pub mark-mask : (us : List ℕ) → mark us (replicate 512 0) ≡ mask (lists us)
+mark-mask us = ext-getD 0 (mark us (replicate 512 0)) (mask (lists us)) (long ∙ sym (length-mask (lists us))) same
+  where
+    long : length (mark us (replicate 512 0)) ≡ 512
+    long = length-mark us (replicate 512 0) ∙ length-replicate {A = ℕ} 512 0
+
+    one : (t : Bool) → oneOr t 0 ≡ byte t
+    one true = refl
+    one false = refl
+
+    same : (a : ℕ) → a < length (mark us (replicate 512 0)) → getD (mark us (replicate 512 0)) a 0 ≡ getD (mask (lists us)) a 0
+    same a h =
+        let l : a < 512 = omega (arith, long) in
+        mark-at us (replicate 512 0) a (rw (length-replicate {A = ℕ} 512 0) l)
+        ∙ rw (getD-replicate {A = ℕ} 512 a 0 0 l, value-at (λ v. byte (lists us v)) 512 a 0 l) (one (lists us a))
 
 -- tests that agree on a list keep the same of it
 pub filter-same : (t r : ℕ → Bool) (xs : List ℕ) → ((u : ℕ) → List·Memᴰ u xs → t u ≡ r u) → filter t xs ≡ filter r xs

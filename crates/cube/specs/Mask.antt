@@ -7,12 +7,13 @@
 --   marked b            the numbers that the mask b marks, rising
 --   points b            the same of a set: its points
 --   byte b              1 for true, 0 for false
+--   mark us b           the bytes b with 1 at each of the numbers us
 --   mask t              the 512 bytes that mark the numbers below 512 that pass a test
 use mathlib.Core.Bool.{Bool, true, false, _&&_}
 use mathlib.Core.List.{List, [], _∷_, map}
 use Prim.Native.Nat.{ℕ, zero, suc}
 use lib.Dec.{eqb, leb, ltb}
-use lib.ListN.{length, getD}
+use lib.ListN.{length, getD, set}
 use Rattle.cube.specs.Numbers.{below, filter}
 use Rattle.cube.specs.Cube.{size}
 
@@ -51,6 +52,11 @@ points b = marked b
 abbrev pub byte : Bool → ℕ
 byte true = 1
 byte false = 0
+
+-- 1 at each of the numbers
+unfoldable pub mark : List ℕ → List ℕ → List ℕ
+mark [] b = b
+mark (u ∷ us) b = mark us (set b u 1)
 
 -- the 512 bytes that mark what passes a test
 abbrev pub mask : (ℕ → Bool) → List ℕ

@@ -6,16 +6,16 @@
 --   RisingFrom low m ps           the points ps rise, from low on, and are below m
 --   differences prev ps           the bytes of the points ps, each as its difference from the one before, the first from prev
 --   encodeList ps                 the bytes of the list ps
---   mark ps b                     the bytes b with 1 at each of the points ps
 --   markDrawn b o                 the bytes b, marked at the points that the outcome o draws, with the bytes that remain
 --   outcomeOf s b r               what the code's answer r says of the bytes s of a file, where it leaves the bytes b
 use mathlib.Core.List.{List, [], _∷_, _++_}
 use Prim.Native.Nat.{ℕ, zero, suc, _+_, _-_, _≤_, _<_}
 use lib.Dec.{leb, ltb}
-use lib.ListN.{length, drop, set}
+use lib.ListN.{length, drop}
 use Rattle.refusal.specs.declared.Refusal.the-variants.{Range, EmptySet}
 use Rattle.refusal.specs.Refusal.{numberOf}
 use Rattle.refusal.specs.Outcome.{Outcome, refused, accepted, _otherwise_, checked}
+use Rattle.cube.specs.Mask.{mark}
 use Rattle.filter_file.specs.declared.list.Listed.{Listed}
 use Rattle.filter_file.specs.declared.list.Listed.the-variants.{Next, Refused}
 use Rattle.filter_file.specs.Drawn.{Drawn, _leaving_, draw}
@@ -52,11 +52,6 @@ differences prev (p ∷ ps) = encodeVarint (p - prev) ++ differences p ps
 -- the count, then the points
 unfoldable pub encodeList : List ℕ → List ℕ
 encodeList ps = encodeVarint (length ps) ++ differences 0 ps
-
--- 1 at each of the points
-unfoldable pub mark : List ℕ → List ℕ → List ℕ
-mark [] b = b
-mark (p ∷ ps) b = mark ps (set b p 1)
 
 -- bytes that are marked at the points that an outcome draws
 abbrev pub markDrawn : List ℕ → Outcome (Drawn (List ℕ)) → Outcome (Drawn (List ℕ))

@@ -8,9 +8,10 @@ use lib.Dec.{leb, ltb}
 use lib.ListN.{length, drop, set, length-set}
 use Rattle.refusal.specs.declared.Refusal.the-variants.{Range}
 use Rattle.refusal.specs.Outcome.{Outcome, refused, accepted, _otherwise_, checked}
+use Rattle.cube.specs.Mask.{mark}
 use Rattle.filter_file.specs.Drawn.{Drawn, _leaving_, draw}
 use Rattle.filter_file.specs.Varint.{varint, outcomeOf}
-use Rattle.filter_file.specs.PointList.{before, pointsFrom, mark, markDrawn}
+use Rattle.filter_file.specs.PointList.{before, pointsFrom, markDrawn}
 use Rattle.filter_file.proofs.list.points_at.Statement.{statement}
 use Rattle.filter_file.proofs.list.points_at.Tie as tie
 
