@@ -11,20 +11,23 @@
 --   solve-last-pivots      the ones of solveLast stand at pivots
 --   solve-last-unique      solveLast is the only row at pivots that is odd with the last row only
 --   solve-last-first       for no rows before the last: a zero row, its pivot changed
+--   solve-last-padded      rows continued by zeros have the same solution
 --   solve-last-next        for one row more, in front: its pivot is changed where its parity is odd; only the entries matter
 use mathlib.Core.Path.{_≡_, refl, sym, ap, _∙_}
 use mathlib.Core.Logic.{_≢_, ⊎-elim}
 use mathlib.Core.Bool.{Bool, true, false, xor, _&&_, and-true, and-false, false≢true}
-use mathlib.Core.List.{List, [], _∷_, _++_, map, List·Memᴰ, List·Memᴰ·head, List·Memᴰ·tail, List·Memᴰ·not-nil, List·Memᴰ·cases-cons}
+use mathlib.Core.List.{List, [], _∷_, _++_, map, map-append, List·Memᴰ, List·Memᴰ·head, List·Memᴰ·tail, List·Memᴰ·not-nil, List·Memᴰ·cases-cons}
 use Prim.Native.Nat.{ℕ}
 use native.Mathlib.Decide.{ℕ-discrete}
 use native.Mathlib.Omega.{arith}
-use lib.ListN.{length, replicate, length-append, length-replicate}
+use lib.ListN.{length, replicate, length-append, length-replicate, length-map}
 use Rattle.gf2.specs.Vector.{Row, entry, add, dot, unit, Zero, Same, OnlyAt, Each, Orthogonal, Separates}
 use Rattle.gf2.specs.Elimination.{pivot, Echelon}
+use Rattle.gf2.specs.Packed.{padded}
 use Rattle.gf2.specs.Solve.{flip, solve, solveLast}
 use Rattle.gf2.proofs.Bits.{bits, xor-false, false-xor, xor-self, xor-equal, xor-true, not-one}
 use Rattle.gf2.proofs.Each.{each-map, each-map₂, each-append, map-each}
+use Rattle.gf2.proofs.Padded.{Fits, entry-padded, pivot-padded}
 use Rattle.gf2.proofs.Dot.{entry-add, add-dot, dot-comm, dot-zero, dot-unit, entry-unit, entry-unit-other, linear-same, dot-linear}
 
 module _ (b : Bool) (x : Row) (c : ℕ) where
@@ -133,6 +136,27 @@ module _ (rs : List Row) (v : Row) (ech : Echelon (rs ++ (v ∷ []))) where
       same = each-append (λ r. dot x r ≡ dot (solveLast rs v) r) rs (v ∷ [])
           (each-map₂ (λ r p q. p ∙ sym q) rs (odd .0) (solve-last-separates .0)) (odd .1 ∙ sym (solve-last-separates .1), tt)
 
+-- only the entries matter where a column is changed, or not, by the parity with a row
+flip-dot-same : (x y r s : Row) (b : Bool) (c : ℕ) → Same x y → Same r s → Same (flip (xor b (dot x r)) x c) (flip (xor b (dot y s)) y c)
+flip-dot-same x y r s b c h g d =
+    let same : dot x r ≡ dot y s = linear-same (dot-linear x) r s g ∙ dot-comm x s ∙ linear-same (dot-linear s) x y h ∙ dot-comm s y in
+    entry-flip (xor b (dot x r)) x c d ∙ rw (h d, same) (sym (entry-flip (xor b (dot y s)) y c d))
+
+-- the same for rows continued by zeros
+solve-padded : (m : ℕ) (rs : List Row) (bs : List Bool) → Each (Fits m) rs → Same (solve (map (padded m) rs) bs) (solve rs bs)
+unfolding solve
+solve-padded m [] bs f c = refl
+solve-padded m (r ∷ rs) [] f c = refl
+solve-padded m (r ∷ rs) (b ∷ bs) f c =
+    rw (pivot-padded m r (f .0))
+    (flip-dot-same (solve (map (padded m) rs) bs) (solve rs bs) (padded m r) r b (pivot r) (solve-padded m rs bs (f .1)) (λ d. entry-padded m r d (f .0 .0)) c)
+
+-- rows continued by zeros have the same solution
+pub solve-last-padded : (m : ℕ) (rs : List Row) (v : Row) → Each (Fits m) rs → Fits m v → Same (solveLast (map (padded m) rs) (padded m v)) (solveLast rs v)
+solve-last-padded m rs v f g c =
+    rw (length-map rs (padded m), ← map-append (padded m) rs (v ∷ []))
+    (solve-padded m (rs ++ (v ∷ [])) (replicate (length rs) false ++ (true ∷ [])) (each-append (Fits m) rs (v ∷ []) f (g, tt)) c)
+
 -- for no rows before the last: a zero row, its pivot changed
 pub solve-last-first : (x v : Row) → Zero x → Same (flip true x (pivot v)) (solveLast [] v)
 unfolding solve flip dot xor add
@@ -144,5 +168,4 @@ pub solve-last-next : (x r : Row) (rs : List Row) (v : Row) (b : Bool) → Same 
 unfolding solve
 solve-last-next x r rs v b h e c =
     let y : Row = solveLast rs v in
-    let same : b ≡ xor false (dot y r) = e ∙ dot-comm x r ∙ linear-same (dot-linear r) x y h ∙ dot-comm r y ∙ sym (false-xor (dot y r)) in
-    entry-flip b x (pivot r) c ∙ rw (h c, same) (sym (entry-flip (xor false (dot y r)) y (pivot r) c))
+    ap (λ z. entry (flip z x (pivot r)) c) (e ∙ sym (false-xor (dot x r))) ∙ flip-dot-same x y r r false (pivot r) h (λ d. refl) c

@@ -1,17 +1,22 @@
 -- Independent rows are no more than the rows that they are sums of (Steinitz).
---   exchange   independent rows that are sums of rs are no more than rs
-use mathlib.Core.Path.{_≡_, refl, ap}
+--   exchange       independent rows that are sums of rs are no more than rs
+--   units m        the unit rows of m columns
+--   units-sum      a row that is zero from column m on is a sum of them
+--   columns-most   independent rows of m columns are no more than m
+use mathlib.Core.Path.{_≡_, refl, sym, ap, _∙_}
+use mathlib.Core.Bool.{Bool, true, false}
 use mathlib.Core.List.{List, [], _∷_}
 use mathlib.Core.Logic.{_⊎_, inl, inr}
-use Prim.Native.Nat.{suc, _≤_}
+use Prim.Native.Nat.{ℕ, zero, suc, _≤_}
+use native.Mathlib.Decide.{ℕ-discrete}
 use native.Mathlib.Omega.{arith}
-use lib.ListN.{length}
-use Rattle.gf2.specs.Vector.{Row, add, Each, SumOf}
+use lib.ListN.{length, List·getD-eq-default}
+use Rattle.gf2.specs.Vector.{Row, entry, add, unit, Each, SumOf}
 use Rattle.gf2.specs.Rank.{Independent}
-use Rattle.gf2.proofs.Bits.{bits}
+use Rattle.gf2.proofs.Bits.{bits, xor-self}
 use Rattle.gf2.proofs.Each.{each-map}
-use Rattle.gf2.proofs.Dot.{entry-add}
-use Rattle.gf2.proofs.Sums.{sum-zero, sum-same, sum-add, sum-later, sum-first, sum-cases, sum-trans, sums-self}
+use Rattle.gf2.proofs.Dot.{entry-add, entry-unit, entry-unit-other}
+use Rattle.gf2.proofs.Sums.{sum-zero, sum-same, sum-add, sum-later, sum-first, sum-cases, sum-with, sum-trans, sums-self}
 use Rattle.gf2.proofs.Independence.{Apart, independent-apart}
 
 -- rows apart, one fewer than bs, that are sums of bs and of rs; for the one fewer there is a spare, a sum of bs that takes r
@@ -70,3 +75,36 @@ apart-le (r ∷ rs) bs a h = elim (shorten r rs bs a h) [
 -- independent rows that are sums of rs are no more than rs
 pub exchange : (rs bs : List Row) → Independent bs → Each (SumOf rs) bs → length bs ≤ length rs
 exchange rs bs h = apart-le rs bs (independent-apart bs .0 h)
+
+-- the unit rows of m columns
+unfoldable pub units : ℕ → List Row
+units zero = []
+units (suc m) = unit m ∷ units m
+
+-- there are m
+length-units : (m : ℕ) → length (units m) ≡ m
+unfolding units
+length-units zero = refl
+length-units (suc m) = ap suc (length-units m)
+
+-- a row that is zero from column m on is a sum of them
+pub units-sum : (m : ℕ) (v : Row) → ((c : ℕ) → m ≤ c → entry v c ≡ false) → SumOf (units m) v
+unfolding units
+units-sum zero v z = sum-zero (λ c. z c (omega arith))
+units-sum (suc m) v z = go (entry v m) refl (units-sum m v) (units-sum m (add v (unit m)))
+  where
+    -- the columns from m on, where column m is known
+    from : (w : Row) → entry w m ≡ false → ((c : ℕ) → suc m ≤ c → entry w c ≡ false) → (c : ℕ) → m ≤ c → entry w c ≡ false
+    from w e later c h = elim (ℕ-discrete m c) [ yes q ↦ ap (entry w) (sym q) ∙ e | no n ↦ later c (omega arith) ]
+
+    go : (b : Bool) → entry v m ≡ b → (((c : ℕ) → m ≤ c → entry v c ≡ false) → SumOf (units m) v)
+        → (((c : ℕ) → m ≤ c → entry (add v (unit m)) c ≡ false) → SumOf (units m) (add v (unit m))) → SumOf (unit m ∷ units m) v
+    go true e without with-unit =
+        sum-with (with-unit (from (add v (unit m)) (entry-add v (unit m) m ∙ rw (e, entry-unit, xor-self))
+        (λ c h. entry-add v (unit m) c ∙ rw (z c h, entry-unit-other m c (λ q. omega arith), xor-self))))
+    go false e without with-unit = sum-later (without (from v e z))
+
+-- independent rows of m columns are no more than m
+pub columns-most : (m : ℕ) (bs : List Row) → Independent bs → Each (λ r. length r ≤ m) bs → length bs ≤ m
+columns-most m bs i h =
+    omega (arith, length-units m, exchange (units m) bs i (each-map (λ r l. units-sum m r (λ c k. List·getD-eq-default r false (omega arith))) bs h))

@@ -22,6 +22,7 @@ pub mod Padded
 pub mod Bitwise
 pub mod Words
 pub mod Parity
+pub mod Clearing
 pub mod Cuts
 pub mod Packing
 pub mod Rows

@@ -3,11 +3,19 @@ ghost use mathlib.Core.Path.{_≡_};
 ghost use mathlib.Core.Bool.{true};
 ghost use Prim.Native.Nat.{_+_, _<_};
 ghost use lib.ListN.{length, take};
-ghost use Rattle.gf2.specs.Vector.{dot, Same};
+ghost use Rattle.gf2.specs.Vector.{entry, dot, Same};
 ghost use Rattle.gf2.specs.Solve.{flip, solveLast};
 ghost use Rattle.gf2.specs.Packed.{unpack, unpacked, rowOf, Pivots};
 use crate::ROW_WORDS;
 use crate::WORD_BITS;
+
+// The entry of `x` at column `c`.
+pub fn entry_at(x: &[u64; 8], c: usize) -> bool
+    requires { ⌜ (length (now x) ≡ 8) × (c < 512) ⌝ }
+    ensures { λ r. ⌜ r ≡ entry (unpack (now (x .entry))) c ⌝ }
+{
+    (x[c / WORD_BITS] >> (c % WORD_BITS)) % 2 == 1
+}
 
 // Whether `x` and row `row` have an odd number of common ones.
 fn dot_row(ws: &[u64], row: usize, x: &[u64; 8]) -> bool

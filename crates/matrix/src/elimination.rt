@@ -19,7 +19,13 @@ pub struct Taken {
 }
 
 // The first `columns` columns of row `from` are taken: what is left of them is kept if it is not zero.
-fn take_row(ws: &mut [u64], pivots: &mut [u16], kept: usize, from: usize, columns: usize) -> Taken
+pub fn take_row(
+    ws: &mut [u64],
+    pivots: &mut [u16],
+    kept: usize,
+    from: usize,
+    columns: usize,
+) -> Taken
     requires { ⌜ (length (now ws) ≡ 8192) × (length (now pivots) ≡ 512) × (kept < 512) × (from < 1024) × Pivots (now pivots) (unpacked (now ws)) kept ⌝ }
     ensures { λ r. ⌜ Takes (unpacked (now (ws .entry))) (unpacked (now (ws .exit))) kept (r .kept) (cut columns (rowOf (unpacked (now (ws .entry))) from)) (r .additions) ⌝ }
     ensures { λ r. ⌜ Pivots (now (pivots .exit)) (unpacked (now (ws .exit))) (r .kept) ⌝ }

@@ -25,7 +25,7 @@ use gf2::packed::common_row;
 const NO_EXPONENT: u16 = 65535;
 
 // Whether the exponent `u` is one of `points` points and weighs at most `d`.
-fn is_column(u: Exponent, points: usize, d: usize) -> bool
+pub fn is_column(u: Exponent, points: usize, d: usize) -> bool
     ensures { λ r. ⌜ r ≡ (ltb (u .0) points && leb (weightOf (u .0)) d) ⌝ }
 {
     if (u.0 as usize) < points {
