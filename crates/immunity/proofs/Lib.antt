@@ -2,6 +2,8 @@
 pub mod First
 pub mod Parts
 pub mod NewPoint
+pub mod NewRow
+pub mod Written
 pub mod Equal
 pub mod Reported
 pub mod Witnesses

@@ -3,6 +3,7 @@ pub mod Part
 pub mod Annihilator
 pub mod First
 pub mod Witness
+pub mod NewRow
 pub mod Judgement
 pub mod Certificate
 pub mod Judge

@@ -6,11 +6,13 @@
 --   fill-next              one number more, before what fills up
 --   length-exponents       512 numbers in all
 --   isColumn n d u         the exponent u is a column of n taps at degree d
---   columnsLeft o n d i    how many columns the order has from place i on
+--   laterColumns o n d i   the columns that the order has from place i on
+--   columns-later          the one at place i is the first of them
+--   columnsLeft o n d i    how many they are
 --   columns-next           one place more
 --   columns-end            none is left at the end
-use mathlib.Core.Path.{_≡_, sym, ap, _∙_}
-use mathlib.Core.Bool.{Bool, _&&_}
+use mathlib.Core.Path.{_≡_, refl, sym, ap, _∙_}
+use mathlib.Core.Bool.{Bool, true, false, _&&_}
 use mathlib.Core.List.{List, [], _∷_, _++_}
 use Prim.Native.Nat.{ℕ, suc, _+_, _-_, _≤_, _<_}
 use native.Mathlib.Numerals.{add-one}
@@ -21,7 +23,7 @@ use lib.Seq.{take-suc, take-all, drop-cons, drop-length, set-append-seam, append
 use Rattle.cube.specs.Numbers.{consIf, filter}
 use Rattle.cube.specs.Cube.{size, weight}
 use Rattle.cube.specs.Order.{Graded}
-use Rattle.cube.proofs.Listed.{filter-cases, filter-snoc, length-filter}
+use Rattle.cube.proofs.Listed.{filter-snoc, length-filter}
 use Rattle.gf2.specs.Packed.{digit}
 use Rattle.matrix.specs.Workspace.{fillTo512, exponents}
 
@@ -41,9 +43,19 @@ fill-next us x h =
 abbrev pub isColumn : ℕ → ℕ → ℕ → Bool
 isColumn n d u = ltb u (size n) && leb (weight u) d
 
--- how many columns the order has from place i on
+-- the columns that the order has from place i on
+abbrev pub laterColumns : List ℕ → ℕ → ℕ → ℕ → List ℕ
+laterColumns o n d i = filter (λ u. leb (weight u) d) (filter (λ u. ltb u (size n)) (drop i o))
+
+-- how many they are
 abbrev pub columnsLeft : List ℕ → ℕ → ℕ → ℕ → ℕ
-columnsLeft o n d i = length (filter (λ u. leb (weight u) d) (filter (λ u. ltb u (size n)) (drop i o)))
+columnsLeft o n d i = length (laterColumns o n d i)
+
+-- a list is longer by one with a number before it
+length-cons-if : (b : Bool) (x : ℕ) (xs : List ℕ) → length (consIf b x xs) ≡ length xs + digit b
+unfolding consIf
+length-cons-if true x xs = omega arith
+length-cons-if false x xs = omega arith
 
 module _ {o : List ℕ} (g : Graded o) (n : ℕ) where
   -- they are at most i
@@ -71,11 +83,12 @@ module _ {o : List ℕ} (g : Graded o) (n : ℕ) where
       ∙ omega (arith, length-replicate {A = ℕ} (512 - length us) 65535, length-filter (λ u. ltb u (size n)) o, g .long)
 
   module _ (d : ℕ) where
-    -- one place more
-    pub columns-next : (i : ℕ) → i < 512 → columnsLeft o n d i ≡ columnsLeft o n d (i + 1) + digit (isColumn n d (getD o i 0))
-    columns-next i h =
-        ap (λ xs. length (filter light (filter small xs))) (drop-cons o i 0 (rw (g .long) h))
-        ∙ rw add-one (filter-cases (λ l. length (filter light l) ≡ left + digit (small x && light x)) small x xs (λ e. rw e first) (λ e. rw e (omega arith)))
+    -- the one at place i is the first of them
+    pub columns-later : (i : ℕ) → i < 512 → let x : ℕ = getD o i 0 in
+        laterColumns o n d i ≡ consIf (isColumn n d x) x (laterColumns o n d (i + 1))
+    unfolding filter consIf
+    columns-later i h =
+        ap (λ xs. filter light (filter small xs)) (drop-cons o i 0 (rw (g .long) h)) ∙ rw add-one (go (getD o i 0) (filter small (drop (suc i) o)) (small (getD o i 0)))
       where
         small : ℕ → Bool
         small u = ltb u (size n)
@@ -83,17 +96,13 @@ module _ {o : List ℕ} (g : Graded o) (n : ℕ) where
         light : ℕ → Bool
         light u = leb (weight u) d
 
-        x : ℕ
-        x = getD o i 0
+        go : (x : ℕ) (xs : List ℕ) (b : Bool) → filter light (consIf b x xs) ≡ consIf (b && light x) x (filter light xs)
+        go x xs true = refl
+        go x xs false = refl
 
-        xs : List ℕ
-        xs = drop (suc i) o
-
-        left : ℕ
-        left = length (filter light (filter small xs))
-
-        first : length (filter light (x ∷ filter small xs)) ≡ left + digit (light x)
-        first = filter-cases (λ l. length l ≡ left + digit (light x)) light x (filter small xs) (λ e. rw e (omega arith)) (λ e. rw e (omega arith))
+    -- one place more
+    pub columns-next : (i : ℕ) → i < 512 → columnsLeft o n d i ≡ columnsLeft o n d (i + 1) + digit (isColumn n d (getD o i 0))
+    columns-next i h = ap length (columns-later i h) ∙ length-cons-if (isColumn n d (getD o i 0)) (getD o i 0) (laterColumns o n d (i + 1))
 
     -- none is left at the end
     pub columns-end : (i : ℕ) → i ≡ 512 → columnsLeft o n d i ≡ 0
