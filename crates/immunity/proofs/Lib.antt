@@ -11,6 +11,8 @@ pub mod Numbers
 pub mod Certificates
 pub mod Given
 pub mod Passed
+pub mod Ready
+pub mod Degrees
 pub mod Demand1
 pub mod Demand2
 pub mod Demand3

@@ -5,6 +5,7 @@ pub mod First
 pub mod Witness
 pub mod NewRow
 pub mod Judgement
+pub mod Ranks
 pub mod Certificate
 pub mod Judge
 pub mod Certify

@@ -1,5 +1,23 @@
 // Judge: the ranks of a set and of its two parts at each degree, the reported degree, and the witnesses.
+ghost use mathlib.Core.Path.{_≡_};
+ghost use mathlib.Core.List.{map};
+ghost use mathlib.Core.Option.{some};
+ghost use mathlib.Core.Bool.{not};
+ghost use Prim.Native.Nat.{ℕ, _+_, _≤_};
+ghost use lib.Dec.{eqb};
+ghost use lib.ListN.{getD, drop};
+ghost use Rattle.cube.specs.Numbers.{below};
+ghost use Rattle.cube.specs.Mask.{points, byte};
+ghost use Rattle.gf2.specs.Packed.{unpacked};
+ghost use Rattle.immunity.specs.First.{first};
+ghost use Rattle.immunity.specs.Judgement.{noRanks, summed};
+ghost use Rattle.immunity.specs.Ranks.{ranksOf, ranksUpTo, additionsOf, differ, Ready};
+use matrix::elimination::eliminate;
+use matrix::rows::column_count;
 use refusal::Refusal;
+
+// The number of degrees of nine taps.
+const DEGREES: usize = 10;
 
 // The ranks of the set, of part 1 and of part 0 at one degree.
 pub struct Ranks {
@@ -22,4 +40,110 @@ pub enum Finding {
 pub struct JudgeAnswer {
     pub finding: Finding,
     pub ranks: [Ranks; 10],
+}
+
+// The ranks at one degree, and the additions of the eliminations that find them.
+struct DegreeRanks {
+    ranks: Ranks,
+    additions: u32,
+}
+
+// The ranks at each degree, and all additions.
+struct FoundRanks {
+    ranks: [Ranks; 10],
+    additions: u32,
+}
+
+// The ranks of the points of three masks at degree `d`.
+fn ranks_at(
+    ws: &mut [u64],
+    order: &[u16; 512],
+    set: &[u8],
+    one: &[u8],
+    zero: &[u8],
+    n: usize,
+    d: usize,
+) -> DegreeRanks
+    requires { ⌜ Ready (now order) n (now ws) (now set) (now one) (now zero) × (d ≤ n) ⌝ }
+    ensures { λ r. ⌜ r .ranks ≡ ranksOf (now (order .entry)) n d (points (now (set .entry))) (points (now (one .entry))) (points (now (zero .entry))) ⌝ }
+    ensures { λ r. ⌜ r .additions ≡ additionsOf (now (order .entry)) n d (points (now (set .entry))) (points (now (one .entry))) (points (now (zero .entry))) ⌝ }
+    ensures { λ r. ⌜ (r .additions ≤ 786432) × (drop 512 (unpacked (now (ws .exit))) ≡ drop 512 (unpacked (now (ws .entry)))) ⌝ }
+{
+    let columns = column_count(order, n, d);
+    let s = eliminate(ws, set, columns);
+    let p = eliminate(ws, one, columns);
+    let q = eliminate(ws, zero, columns);
+    DegreeRanks {
+        ranks: Ranks {
+            set: s.kept as u16,
+            one: p.kept as u16,
+            zero: q.kept as u16,
+        },
+        additions: s.additions + p.additions + q.additions,
+    }
+}
+
+// The ranks of the points of three masks at each degree up to `n`, and all 0 past it.
+fn all_ranks(
+    ws: &mut [u64],
+    order: &[u16; 512],
+    set: &[u8],
+    one: &[u8],
+    zero: &[u8],
+    n: usize,
+) -> FoundRanks
+    requires { ⌜ Ready (now order) n (now ws) (now set) (now one) (now zero) ⌝ }
+    ensures { λ r. ⌜ r .ranks ≡ map (ranksUpTo (now (order .entry)) n (points (now (set .entry))) (points (now (one .entry))) (points (now (zero .entry)))) (below 10) ⌝ }
+    ensures { λ r. ⌜ r .additions ≡ summed (λ d. additionsOf (now (order .entry)) n d (points (now (set .entry))) (points (now (one .entry))) (points (now (zero .entry)))) (below (n + 1)) ⌝ }
+    ensures { λ r. ⌜ drop 512 (unpacked (now (ws .exit))) ≡ drop 512 (unpacked (now (ws .entry))) ⌝ }
+{
+    let mut ranks = [Ranks {
+        set: 0,
+        one: 0,
+        zero: 0,
+    }; DEGREES];
+    let mut additions: u32 = 0;
+    let mut d: usize = 0;
+    while d <= n {
+        let found = ranks_at(ws, order, set, one, zero, n, d);
+        let here = found.ranks;
+        ranks[d] = here;
+        additions += found.additions;
+        d += 1;
+    }
+    FoundRanks { ranks, additions }
+}
+
+// Whether the rank of a part is not that of the set.
+fn part_differs(r: Ranks) -> bool
+    ensures { λ b. ⌜ b ≡ differ r ⌝ }
+{
+    if r.set != r.one {
+        return true;
+    }
+    r.set != r.zero
+}
+
+// The first degree up to `n` at which the rank of a part is not that of the set; `n` where there is none.
+fn first_difference(ranks: [Ranks; 10], n: usize) -> usize
+    requires { ⌜ n ≤ 9 ⌝ }
+    ensures { λ r. ⌜ ((k : ℕ) → first (λ d. differ (getD ranks d noRanks)) (below (n + 1)) ≡ some k → r ≡ k) ⌝ }
+    ensures { λ r. ⌜ r ≤ n ⌝ }
+{
+    let mut d: usize = 0;
+    while d < n {
+        let here = ranks[d];
+        if part_differs(here) {
+            return d;
+        }
+        d += 1;
+    }
+    n
+}
+
+// The side of the reported degree: 1 if the rank of part 1 is not that of the set, else 0.
+fn side_of(r: Ranks) -> u8
+    ensures { λ s. ⌜ s ≡ byte (not (eqb (r .set) (r .one))) ⌝ }
+{
+    if r.set != r.one { 1 } else { 0 }
 }
