@@ -1,4 +1,5 @@
 -- The ranks that Judge gives at a degree.
+--   ranks-given     all three
 --   set-given       that of the set
 --   part-given      that of a side's part
 --   equal-given     they are equal exactly where the ranks are
@@ -19,7 +20,7 @@ use Rattle.immunity.specs.Demands.{GivenEqual}
 
 module _ (o : List ℕ) (n : ℕ) (s f : List ℕ) (d : ℕ) (up : d ≤ n) (small : n ≤ 9) where
   -- the ranks that Judge gives at a degree
-  ranks-given : getD (judged o n s f .ranks) d noRanks
+  pub ranks-given : getD (judged o n s f .ranks) d noRanks
       ≡ record { set = rankOf o n d (points s); one = rankOf o n d (part 1 s f); zero = rankOf o n d (part 0 s f) }
   unfolding judged ranksAt ranksIf
   ranks-given = value-at (ranksAt o n s f) 10 d noRanks (omega arith) ∙ rw (le-leb d n up)

@@ -13,6 +13,7 @@ pub mod Given
 pub mod Passed
 pub mod Ready
 pub mod Degrees
+pub mod Judging
 pub mod Demand1
 pub mod Demand2
 pub mod Demand3

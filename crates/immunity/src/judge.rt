@@ -2,18 +2,32 @@
 ghost use mathlib.Core.Path.{_≡_};
 ghost use mathlib.Core.List.{map};
 ghost use mathlib.Core.Option.{some};
-ghost use mathlib.Core.Bool.{not};
+ghost use mathlib.Core.Bool.{true, false, not};
 ghost use Prim.Native.Nat.{ℕ, _+_, _≤_};
 ghost use lib.Dec.{eqb};
-ghost use lib.ListN.{getD, drop};
-ghost use Rattle.cube.specs.Numbers.{below};
-ghost use Rattle.cube.specs.Mask.{points, byte};
+ghost use lib.ListN.{length, getD, drop, replicate};
+ghost use Rattle.cube.specs.Numbers.{below, isEmpty};
+ghost use Rattle.cube.specs.Cube.{taps};
+ghost use Rattle.cube.specs.Mask.{wellFormed, points, byte, mask};
 ghost use Rattle.gf2.specs.Packed.{unpacked};
+ghost use Rattle.immunity.specs.declared.judge.Finding.the-variants.{Refused};
 ghost use Rattle.immunity.specs.First.{first};
+ghost use Rattle.immunity.specs.Witness.{witnessAt};
 ghost use Rattle.immunity.specs.Judgement.{noRanks, summed};
 ghost use Rattle.immunity.specs.Ranks.{ranksOf, ranksUpTo, additionsOf, differ, Ready};
+ghost use Rattle.immunity.specs.Judge.{Judges};
+use crate::part::part_mask;
+use crate::witness::write_witness;
+use cube::POINTS;
+use cube::mask::is_empty;
+use cube::mask::well_formed;
+use cube::order::graded_order;
+use cube::valid_taps;
+use gf2::WORKSPACE;
+use gf2::packed::clear;
 use matrix::elimination::eliminate;
 use matrix::rows::column_count;
+use matrix::rows::fill_rows;
 use refusal::Refusal;
 
 // The number of degrees of nine taps.
@@ -52,6 +66,107 @@ struct DegreeRanks {
 struct FoundRanks {
     ranks: [Ranks; 10],
     additions: u32,
+}
+
+// The ranks of the set and its parts at each degree, the first degree at which a part's rank differs from the set's, and
+// the witness of each side that differs there; for a set and a table of `n` taps.
+pub fn judge(
+    set: &[u8],
+    table: &[u8],
+    n: usize,
+    workspace: &mut [u64],
+    one: &mut [u8],
+    zero: &mut [u8],
+) -> JudgeAnswer
+    ensures { λ r. ⌜ Judges (now (set .entry)) (now (table .entry)) n (now (workspace .entry)) (now (one .entry)) (now (zero .entry))
+        (now (workspace .exit)) (now (one .exit)) (now (zero .exit)) r ⌝ }
+{
+    if set.len() != POINTS {
+        return refuse(Refusal::Length);
+    }
+    if table.len() != POINTS {
+        return refuse(Refusal::Length);
+    }
+    if workspace.len() != WORKSPACE {
+        return refuse(Refusal::Length);
+    }
+    if one.len() != POINTS {
+        return refuse(Refusal::Length);
+    }
+    if zero.len() != POINTS {
+        return refuse(Refusal::Length);
+    }
+    if !valid_taps(n) {
+        return refuse(Refusal::Taps);
+    }
+    if !well_formed(set, n) {
+        return refuse(Refusal::Bytes);
+    }
+    if !well_formed(table, n) {
+        return refuse(Refusal::Bytes);
+    }
+    if is_empty(set) {
+        return refuse(Refusal::EmptySet);
+    }
+    judge_points(set, table, n, workspace, one, zero)
+}
+
+// A refusal: the ranks are all 0.
+fn refuse(why: Refusal) -> JudgeAnswer
+    ensures { λ r. ⌜ (r .finding ≡ Refused why) × (r .ranks ≡ replicate 10 noRanks) ⌝ }
+{
+    JudgeAnswer {
+        finding: Finding::Refused(why),
+        ranks: [Ranks {
+            set: 0,
+            one: 0,
+            zero: 0,
+        }; DEGREES],
+    }
+}
+
+// The same of a set and a table that passed the checks; the workspace is then zero.
+fn judge_points(
+    set: &[u8],
+    table: &[u8],
+    n: usize,
+    workspace: &mut [u64],
+    one: &mut [u8],
+    zero: &mut [u8],
+) -> JudgeAnswer
+    requires { ⌜ (length (now set) ≡ 512) × (length (now table) ≡ 512) × (length (now workspace) ≡ 8192) × (length (now one) ≡ 512) × (length (now zero) ≡ 512)
+        × (taps n ≡ true) × (wellFormed n (now set) ≡ true) × (wellFormed n (now table) ≡ true) × (isEmpty (points (now set)) ≡ false) ⌝ }
+    ensures { λ r. ⌜ Judges (now (set .entry)) (now (table .entry)) n (now (workspace .entry)) (now (one .entry)) (now (zero .entry))
+        (now (workspace .exit)) (now (one .exit)) (now (zero .exit)) r ⌝ }
+{
+    let order = graded_order();
+    let part_one = part_mask(set, table, 1);
+    let part_zero = part_mask(set, table, 0);
+    fill_rows(workspace, &order, n);
+    let found = all_ranks(workspace, &order, set, &part_one, &part_zero, n);
+    let ranks = found.ranks;
+    let k = first_difference(ranks, n);
+    write_witnesses(
+        workspace,
+        &order,
+        set,
+        &part_one,
+        &part_zero,
+        n,
+        k,
+        one,
+        zero,
+    );
+    clear(workspace);
+    let here = ranks[k];
+    JudgeAnswer {
+        finding: Finding::Judged {
+            degree: k,
+            side: side_of(here),
+            additions: found.additions,
+        },
+        ranks,
+    }
 }
 
 // The ranks of the points of three masks at degree `d`.
@@ -112,6 +227,26 @@ fn all_ranks(
         d += 1;
     }
     FoundRanks { ranks, additions }
+}
+
+// The witnesses against the parts `p` and `q` of the set at degree `d` are written.
+fn write_witnesses(
+    ws: &mut [u64],
+    order: &[u16; 512],
+    set: &[u8],
+    p: &[u8],
+    q: &[u8],
+    n: usize,
+    d: usize,
+    one: &mut [u8],
+    zero: &mut [u8],
+)
+    requires { ⌜ Ready (now order) n (now ws) (now set) (now p) (now q) × (d ≤ n) × (length (now one) ≡ 512) × (length (now zero) ≡ 512) ⌝ }
+    ensures { λ _. ⌜ now (one .exit) ≡ mask (witnessAt (now (order .entry)) n d (points (now (set .entry))) (points (now (p .entry)))) ⌝ }
+    ensures { λ _. ⌜ now (zero .exit) ≡ mask (witnessAt (now (order .entry)) n d (points (now (set .entry))) (points (now (q .entry)))) ⌝ }
+{
+    write_witness(ws, order, set, p, n, d, one);
+    write_witness(ws, order, set, q, n, d, zero);
 }
 
 // Whether the rank of a part is not that of the set.
