@@ -1,5 +1,8 @@
 -- Entries and parities of sums of rows.
+--   add-nil            nothing is added
+--   add-assoc          sums are regrouped
 --   entry-add          an entry of a sum is the sum of the entries
+--   entry-add-if       an entry where a row is added, or not
 --   same-zero          rows agree just if their sum is zero
 --   add-dot            the parity of a sum with a row is the sum of the parities
 --   dot-comm           it does not matter which row is first
@@ -22,7 +25,22 @@ use mathlib.Core.Bool.{Bool, false, true, xor, _&&_, and-comm, and-false}
 use mathlib.Core.List.{[], _∷_}
 use Prim.Native.Nat.{ℕ, zero, suc}
 use Rattle.gf2.specs.Vector.{Row, entry, add, dot, unit, Zero, Same}
-use Rattle.gf2.proofs.Bits.{bits, xor-false, false-xor, xor-self, xor-equal}
+use Rattle.gf2.specs.Elimination.{addIf}
+use Rattle.gf2.proofs.Bits.{bits, xor-false, false-xor, xor-self, xor-equal, xor-assoc}
+
+-- nothing is added
+pub add-nil : (v : Row) → add v [] ≡ v
+unfolding add
+add-nil [] = refl
+add-nil (x ∷ v) = refl
+
+-- sums are regrouped
+pub add-assoc : (u v w : Row) → add (add u v) w ≡ add u (add v w)
+unfolding add
+add-assoc [] v w = refl
+add-assoc (x ∷ u) [] w = refl
+add-assoc (x ∷ u) (y ∷ v) [] = refl
+add-assoc (x ∷ u) (y ∷ v) (z ∷ w) = rw (xor-assoc, add-assoc u v w)
 
 -- an entry of a sum is the sum of the entries
 pub entry-add : (v w : Row) (c : ℕ) → entry (add v w) c ≡ xor (entry v c) (entry w c)
@@ -31,6 +49,12 @@ entry-add [] w c = rw false-xor
 entry-add (x ∷ v) [] c = rw xor-false
 entry-add (x ∷ v) (y ∷ w) zero = refl
 entry-add (x ∷ v) (y ∷ w) (suc c) = entry-add v w c
+
+-- the entries where a row is added, or not
+pub entry-add-if : (b : Bool) (v r : Row) (c : ℕ) → entry (addIf b v r) c ≡ xor (entry v c) (b && entry r c)
+unfolding addIf
+entry-add-if true v r c = entry-add v r c
+entry-add-if false v r c = rw xor-false
 
 -- rows agree just if their sum is zero
 pub same-zero : (v w : Row) → Same v w ↔ Zero (add v w)

@@ -13,7 +13,7 @@ use lib.Seq.{take-suc, take-all, length-take-le}
 use Rattle.gf2.specs.Vector.{Row, entry, total, Choice, chosen, SumOf}
 use Rattle.gf2.specs.Rank.{Independent}
 use Rattle.gf2.proofs.Bits.{xor-self, xor-equal}
-use Rattle.gf2.proofs.Dot.{entry-add, same-zero}
+use Rattle.gf2.proofs.Dot.{entry-add, entry-add-if, same-zero}
 use Rattle.gf2.proofs.Chosen.{total-snoc}
 
 -- no row is a sum of the rows after it
@@ -89,7 +89,7 @@ independent-snoc rs ind v new c e z = go (entry c (length rs)) split
     split = sym (take-all (suc (length rs)) c (omega (arith, size))) ∙ take-suc c (length rs) false (omega (arith, size))
 
     part : (b : Bool) → c ≡ a ++ (b ∷ []) → (k : ℕ) → xor (entry (total (chosen a rs)) k) (b && entry v k) ≡ false
-    part b s k = sym (total-snoc a b rs v k len) ∙ rw (← s) (z k)
+    part b s k = sym (ap (λ x. entry x k) (total-snoc a b rs v len) ∙ entry-add-if b (total (chosen a rs)) v k) ∙ rw (← s) (z k)
 
     go : (b : Bool) → c ≡ a ++ (b ∷ []) → c ≡ replicate (length (rs ++ (v ∷ []))) false
     go true s = absurd (new record { choice = a; sums = λ k. xor-equal _ _ (part true s k) })

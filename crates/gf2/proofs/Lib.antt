@@ -28,3 +28,4 @@ pub mod Packing
 pub mod Rows
 pub mod Joined
 pub mod Steps
+pub mod BothRows

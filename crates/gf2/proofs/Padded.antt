@@ -3,7 +3,6 @@
 --   entry-padded       the entries are those of the row
 --   cut-padded         zeros from a column on: the first columns, continued by zeros
 --   append-padded      the row with zeros behind it
---   add-nil            a row added to none
 --   add-padded         sums of rows continued by zeros
 --   length-add         a sum is as long as the longer of its terms
 --   pivot-padded       the pivot stays
@@ -25,6 +24,7 @@ use Rattle.gf2.specs.Elimination.{pivot, isZero, Reduced, addIf, reduce,
 use Rattle.gf2.specs.Packed.{cut, padded}
 use Rattle.gf2.proofs.Bits.{xor-self, xor-false, false-xor}
 use Rattle.gf2.proofs.Each.{each-append}
+use Rattle.gf2.proofs.Dot.{add-nil}
 use Rattle.gf2.proofs.Reducing.{entry-pivot}
 
 -- at most m columns, and a one at the pivot
@@ -68,12 +68,6 @@ append-padded zero (x ∷ v) l = absurd (omega arith)
 append-padded (suc m) (x ∷ v) l =
     let e : suc m - suc (length v) ≡ m - length v = omega arith in
     rw e (ap (λ w. x ∷ w) (append-padded m v (omega arith)))
-
--- a row added to none
-pub add-nil : (v : Row) → add v [] ≡ v
-unfolding add
-add-nil [] = refl
-add-nil (x ∷ v) = refl
 
 -- sums of rows continued by zeros
 pub add-padded : (m : ℕ) (v w : Row) → add (padded m v) (padded m w) ≡ padded m (add v w)

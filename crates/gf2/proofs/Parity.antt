@@ -19,7 +19,7 @@ use Rattle.gf2.specs.Solve.{flip}
 use Rattle.gf2.proofs.Bits.{xor-false, false-xor, xor-self, xor-assoc}
 use Rattle.gf2.proofs.Bitwise.{length-bits, xor-bitwise, and-bitwise}
 use Rattle.gf2.proofs.Words.{past-first}
-use Rattle.gf2.proofs.Padded.{add-nil}
+use Rattle.gf2.proofs.Dot.{add-nil}
 
 -- a sum is odd just if exactly one of its terms is
 pub odd-add : (a b : ℕ) → odd (a + b) ≡ xor (odd a) (odd b)

@@ -15,7 +15,7 @@
 --   reduce-echelon        with what is left of a row, if anything, the list stays echelon
 use mathlib.Core.Path.{_≡_, refl, sym, ap, _∙_}
 use mathlib.Core.Logic.{_↔_}
-use mathlib.Core.Bool.{Bool, true, false, xor, _&&_, and-true, and-false, false≢true}
+use mathlib.Core.Bool.{Bool, true, false, and-true, and-false, false≢true}
 use mathlib.Core.List.{List, [], _∷_, _++_}
 use Prim.Native.Nat.{ℕ, zero, suc, _+_, _≤_}
 use native.Mathlib.Omega.{arith}
@@ -23,9 +23,9 @@ use lib.ListN.{length}
 use Rattle.gf2.specs.Vector.{Row, entry, add, total, Zero, Same, Each, Choice, chosen, SumOf}
 use Rattle.gf2.specs.Rank.{Independent}
 use Rattle.gf2.specs.Elimination.{pivot, isZero, count, Cleared, Echelon, Reduced, addIf, reduce}
-use Rattle.gf2.proofs.Bits.{bits, xor-false}
+use Rattle.gf2.proofs.Bits.{bits}
 use Rattle.gf2.proofs.Each.{each-map, each-append}
-use Rattle.gf2.proofs.Dot.{zero-cons, entry-add}
+use Rattle.gf2.proofs.Dot.{zero-cons, entry-add, entry-add-if}
 use Rattle.gf2.proofs.Chosen.{entry-total, total-zero}
 use Rattle.gf2.proofs.Sums.{sum-same, sum-add}
 
@@ -42,12 +42,6 @@ unfolding isZero pivot
 entry-pivot [] e = cc
 entry-pivot (true ∷ v) e = refl
 entry-pivot (false ∷ v) e = entry-pivot v e
-
--- the entries where a row is added, or not
-entry-add-if : (b : Bool) (v r : Row) (c : ℕ) → entry (addIf b v r) c ≡ xor (entry v c) (b && entry r c)
-unfolding addIf
-entry-add-if true v r c = entry-add v r c
-entry-add-if false v r c = rw xor-false
 
 -- a choice chooses no more than it has places
 count-few : (c : Choice) → count c ≤ length c

@@ -1,4 +1,5 @@
 -- The rows of the workspace while a row is reduced and kept.
+--   reduce-next    a row is reduced by one row more
 --   reduces-none   by no rows: nothing changes
 --   reduces-next   by one row more
 --   reduced-row    what is left of the row
@@ -23,6 +24,11 @@ use Rattle.gf2.specs.Elimination.{Reduced, pivot, isZero, count, reduce,
 use Rattle.gf2.specs.Packed.{rowOf, Pivots, Reduces, oneMoreUnless}
 use Rattle.gf2.proofs.Reducing.{reduce-snoc, count-append}
 
+-- a row is reduced by one row more
+pub reduce-next : (t : List Row) (k : ℕ) (v : Row) (b : Bool) → k < length t → let m : Reduced = reduce (take k t) v in
+    b ≡ entry (m .left) (pivot (rowOf t k)) → reduce (take (k + 1) t) v ≡ record { left = addIf b (m .left) (rowOf t k); added = m .added ++ (b ∷ []) }
+reduce-next t k v b l e = rw (add-one, take-suc t k [] l, e) (reduce-snoc (take k t) (rowOf t k) v)
+
 module _ (t : List Row) (row : ℕ) where
   -- by no rows: nothing changes
   pub reduces-none : Reduces 0 row t t 0
@@ -43,9 +49,8 @@ module _ (t : List Row) (row : ℕ) where
         → t″ ≡ set t′ row (addIf b (rowOf t′ row) (rowOf t k)) → Reduces (k + 1) row t t″ (n + count (b ∷ []))
     reduces-next b t″ h e f =
         let m : Reduced = reduce (take k t) (rowOf t row) in
-        let is : b ≡ entry (m .left) (pivot (rowOf t k)) = e ∙ ap (λ v. entry v (pivot (rowOf t k))) reduced-row in
         let next : reduce (take (k + 1) t) (rowOf t row) ≡ record { left = addIf b (m .left) (rowOf t k); added = m .added ++ (b ∷ []) } =
-        rw (add-one, take-suc t k [] (omega arith), is) (reduce-snoc (take k t) (rowOf t k) (rowOf t row)) in
+        reduce-next t k (rowOf t row) b (omega arith) (e ∙ ap (λ v. entry v (pivot (rowOf t k))) reduced-row) in
         record {
           rows = rw next (f ∙ ap (λ v. set t′ row (addIf b v (rowOf t k))) reduced-row ∙ ap (λ s. set s row (addIf b (m .left) (rowOf t k))) (r .rows) ∙ set-set t row _ _);
           additions = rw (next, count-append (m .added) (b ∷ []), r .additions);

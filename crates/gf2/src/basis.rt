@@ -4,7 +4,7 @@ ghost use mathlib.Core.Path.{_≡_};
 ghost use Prim.Native.Nat.{_+_, _<_, _≤_};
 ghost use lib.ListN.{length};
 ghost use Rattle.gf2.specs.Elimination.{isZero};
-ghost use Rattle.gf2.specs.Packed.{unpacked, rowOf, Pivots, Reduces, oneMoreUnless};
+ghost use Rattle.gf2.specs.Packed.{unpacked, rowOf, Pivots, Places, Reduces, reducedBoth, oneMoreUnless};
 use crate::COLUMNS;
 use crate::packed::add_row;
 use crate::packed::entry;
@@ -27,6 +27,30 @@ pub fn reduce(ws: &mut [u64], pivots: &[u16], kept: usize, row: usize) -> u32
         j += 1;
     }
     count
+}
+
+// Row `row` is reduced by the `kept` rows before it, and with each of them that is added to it the row at its place is
+// added to row `sum`.
+pub fn reduce_both(
+    ws: &mut [u64],
+    pivots: &[u16],
+    places: &[u16],
+    kept: usize,
+    row: usize,
+    sum: usize,
+)
+    requires { ⌜ (length (now ws) ≡ 8192) × (length (now pivots) ≡ 512) × (length (now places) ≡ 512) × (kept ≤ row) × (row < 512) × (512 ≤ sum) × (sum < 1024) × Pivots (now pivots) (unpacked (now ws)) kept × Places (now places) kept sum ⌝ }
+    ensures { λ _. ⌜ unpacked (now (ws .exit)) ≡ reducedBoth kept row sum (now (places .entry)) (unpacked (now (ws .entry))) ⌝ }
+{
+    let mut i: usize = 0;
+    while i < kept {
+        let p = pivots[i] as usize;
+        if entry(ws, row, p) {
+            add_row(ws, row, i);
+            add_row(ws, sum, places[i] as usize);
+        }
+        i += 1;
+    }
 }
 
 // Row `kept` becomes a kept row, unless it is zero. The result is the number of kept rows.
