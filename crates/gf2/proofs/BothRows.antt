@@ -1,23 +1,25 @@
 -- The rows of the workspace while a row is reduced and a second row follows it.
---   left, added   what is left of the row, and what is added to the second row
 --   both-length   there are as many rows
 --   both-none     by no rows: nothing changes
 --   both-left     what is left of the row
 --   both-sum      what the second row is
+--   both-front    the rows before the second row: only the first has changed
 --   both-other    the other rows are as they were
+--   places-rows   the rows at places stay where all rows from 512 on but one do
 --   both-next     by one row more
 use mathlib.Core.Path.{_≡_, refl, sym, ap, ap₂, _∙_}
 use mathlib.Core.Logic.{_≢_}
 use mathlib.Core.Bool.{Bool, true, false}
 use mathlib.Core.List.{List, [], _∷_, _++_, map, map-append}
-use Prim.Native.Nat.{ℕ, _+_, _<_}
+use Prim.Native.Nat.{ℕ, _+_, _≤_, _<_}
 use native.Mathlib.Numerals.{add-one}
 use native.Mathlib.Omega.{arith}
 use lib.ListN.{length, getD, set, take, length-set, length-map}
-use lib.Seq.{lt-length-set, take-suc, set-set, set-comm, set-getD, getD-set-same, getD-set-other, length-take-le}
+use lib.Seq.{lt-length-set, take-suc, set-set, set-comm, set-getD, getD-set-same, getD-set-other, take-set-le, length-take-le}
 use Rattle.gf2.specs.Vector.{Row, entry, add, total, chosen}
 use Rattle.gf2.specs.Elimination.{Reduced, pivot, addIf, reduce}
-use Rattle.gf2.specs.Packed.{rowOf, reducedBoth}
+use Rattle.gf2.specs.Packed.{rowOf, Places, reducedBoth}
+use Rattle.gf2.proofs.Each.{each-taken, map-each}
 use Rattle.gf2.proofs.Dot.{add-nil, add-assoc}
 use Rattle.gf2.proofs.Chosen.{total-snoc}
 use Rattle.gf2.proofs.Reducing.{reduce-length}
@@ -29,13 +31,19 @@ unfolding addIf
 add-add-if true u v w = add-assoc u v w
 add-add-if false u v w = refl
 
+-- the rows at places stay where all rows from 512 on but one do
+pub places-rows : (ps : List ℕ) (k s : ℕ) (t t′ : List Row) → k ≤ length ps → Places ps k s → ((j : ℕ) → 512 ≤ j → j ≢ s → rowOf t′ j ≡ rowOf t j)
+    → map (rowOf t′) (take k ps) ≡ map (rowOf t) (take k ps)
+places-rows ps k s t t′ l h e =
+    map-each (rowOf t′) (rowOf t) (take k ps) (each-taken (λ p. rowOf t′ p ≡ rowOf t p) 0 k ps l .1 (λ j i. e (getD ps j 0) (h j i .0) (h j i .2)))
+
 module _ (row s : ℕ) (ps : List ℕ) (t : List Row) where
   -- the row after it was reduced by the first k rows
   abbrev left : ℕ → Row
   left k = reduce (take k t) (rowOf t row) .left
 
   -- what is then added to the second row
-  abbrev pub added : ℕ → Row
+  abbrev added : ℕ → Row
   added k = total (chosen (reduce (take k t) (rowOf t row) .added) (map (rowOf t) (take k ps)))
 
   -- there are as many rows
@@ -58,6 +66,11 @@ module _ (row s : ℕ) (ps : List ℕ) (t : List Row) where
     pub both-sum : s < length t → rowOf (reducedBoth k row s ps t) s ≡ add (rowOf t s) (added k)
     unfolding reducedBoth
     both-sum m = getD-set-same (set t row (left k)) s (add (rowOf t s) (added k)) [] (lt-length-set t row (left k) m)
+
+    -- before the second row only the first has changed
+    pub both-front : (n : ℕ) → n ≤ s → take n (reducedBoth k row s ps t) ≡ take n (set t row (reduce (take k t) (rowOf t row) .left))
+    unfolding reducedBoth
+    both-front n h = take-set-le n (set t row (left k)) s (add (rowOf t s) (added k)) h
 
     -- the other rows are as they were
     pub both-other : (j : ℕ) → j ≢ row → j ≢ s → rowOf (reducedBoth k row s ps t) j ≡ rowOf t j

@@ -4,6 +4,9 @@
 --   cut-padded         zeros from a column on: the first columns, continued by zeros
 --   append-padded      the row with zeros behind it
 --   add-padded         sums of rows continued by zeros
+--   total-padded       a total of rows continued by zeros, added to such a row
+--   zero-row           512 zeros: no columns, continued by zeros
+--   unit-padded        512 zeros with a one at a column: a unit row continued by zeros
 --   length-add         a sum is as long as the longer of its terms
 --   pivot-padded       the pivot stays
 --   zero-padded        a row continued by zeros is zero just if the row is
@@ -13,18 +16,18 @@
 --   eliminate-padded   rows continued by zeros: the kept rows are the same, continued by zeros, and all else is the same
 --   kept-fits          the kept rows have no more columns than the rows
 --   take-points-same   elimination sees only the rows of its points
-use mathlib.Core.Path.{_≡_, refl, ap, _∙_}
+use mathlib.Core.Path.{_≡_, refl, sym, ap, _∙_}
 use mathlib.Core.Bool.{Bool, true, false, xor, not, _&&_, false≢true}
 use mathlib.Core.List.{List, [], _∷_, _++_, map, map-append}
-use Prim.Native.Nat.{ℕ, zero, suc, _-_, _≤_}
+use Prim.Native.Nat.{ℕ, zero, suc, _-_, _≤_, _<_}
 use native.Mathlib.Omega.{arith}
-use lib.ListN.{length, take, replicate}
-use Rattle.gf2.specs.Vector.{Row, entry, add, Each}
+use lib.ListN.{length, set, take, replicate}
+use Rattle.gf2.specs.Vector.{Row, entry, add, total, unit, Each, Choice, chosen}
 use Rattle.gf2.specs.Elimination.{pivot, isZero, Reduced, addIf, reduce, Elimination, nothing, keepUnless, takePoint, takePoints, eliminate}
-use Rattle.gf2.specs.Packed.{cut, padded}
+use Rattle.gf2.specs.Packed.{zeroRow, cut, padded}
 use Rattle.gf2.proofs.Bits.{xor-self, xor-false, false-xor}
 use Rattle.gf2.proofs.Each.{each-append}
-use Rattle.gf2.proofs.Dot.{add-nil}
+use Rattle.gf2.proofs.Dot.{add-nil, add-assoc}
 use Rattle.gf2.proofs.Reducing.{entry-pivot}
 
 -- at most m columns, and a one at the pivot
@@ -77,6 +80,36 @@ add-padded (suc m) [] [] = rw xor-self (ap (λ u. false ∷ u) (add-padded m [] 
 add-padded (suc m) [] (y ∷ w) = rw false-xor (ap (λ u. y ∷ u) (add-padded m [] w))
 add-padded (suc m) (x ∷ v) [] = rw xor-false (ap (λ u. x ∷ u) (add-padded m v [] ∙ ap (padded m) (add-nil v)))
 add-padded (suc m) (x ∷ v) (y ∷ w) = ap (λ u. xor x y ∷ u) (add-padded m v w)
+
+-- a total of rows continued by zeros, added to such a row
+pub total-padded : (m : ℕ) (v : Row) (c : Choice) (rs : List Row)
+    → add (padded m v) (total (chosen c (map (padded m) rs))) ≡ padded m (add v (total (chosen c rs)))
+unfolding chosen total
+total-padded m v [] rs = rw (add-nil (padded m v), add-nil v)
+total-padded m v (b ∷ c) [] = rw (add-nil (padded m v), add-nil v)
+total-padded m v (true ∷ c) (r ∷ rs) =
+    sym (add-assoc (padded m v) (padded m r) (total (chosen c (map (padded m) rs))))
+    ∙ ap (λ u. add u (total (chosen c (map (padded m) rs)))) (add-padded m v r)
+    ∙ total-padded m (add v r) c rs
+    ∙ ap (padded m) (add-assoc v r (total (chosen c rs)))
+total-padded m v (false ∷ c) (r ∷ rs) = total-padded m v c rs
+
+-- zeros with a one at a column: a unit row continued by zeros
+unit-zeros : (m c : ℕ) → c < m → set (replicate m false) c true ≡ padded m (unit c)
+unfolding padded unit
+unit-zeros zero c l = absurd (omega arith)
+unit-zeros (suc m) zero l = ap (λ v. true ∷ v) (padded-nil m)
+unit-zeros (suc m) (suc c) l = ap (λ v. false ∷ v) (unit-zeros m c (omega arith))
+
+-- the same of 512 zeros
+pub unit-padded : (c : ℕ) → c < 512 → set zeroRow c true ≡ padded 512 (unit c)
+unfolding zeroRow
+unit-padded c l = unit-zeros 512 c l
+
+-- 512 zeros: no columns, continued by zeros
+pub zero-row : zeroRow ≡ padded 512 []
+unfolding zeroRow
+zero-row = padded-nil 512
 
 -- the same where a row is added or not
 add-if-padded : (b : Bool) (m : ℕ) (v w : Row) → addIf b (padded m v) (padded m w) ≡ padded m (addIf b v w)

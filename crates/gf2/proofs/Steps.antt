@@ -7,18 +7,20 @@
 --   pivot-zero     a row whose pivot is past its end is zero
 --   pivot-one      a row whose pivot is before its end is not
 --   pivots-set     a row behind the first k may change
+--   pivots-same    only the first k rows matter
 --   pivots-more    one row more has its pivot stored
---   kept-more      the kept rows after a row was reduced and kept, or found to be zero
+--   kept-more      the first members of a list after one was stored behind them, which is kept or not
+--   keep-map       the images of a list with one more member, or none
 use mathlib.Core.Path.{_≡_, refl, sym, ap, _∙_}
 use mathlib.Core.Bool.{Bool, true, false}
-use mathlib.Core.List.{List, [], _∷_, _++_}
+use mathlib.Core.List.{List, [], _∷_, _++_, map, map-append}
 use Prim.Native.Nat.{ℕ, zero, _+_, _≤_, _<_}
 use native.Mathlib.Nat.{le-refl}
 use native.Mathlib.Numerals.{add-one}
 use native.Mathlib.Omega.{arith}
 use native.Mathlib.Decide.{decLt}
 use lib.ListN.{length, getD, set, take}
-use lib.Seq.{take-suc, set-set, set-getD, getD-set-same, getD-set-other, take-set-le, take-suc-set}
+use lib.Seq.{take-suc, set-set, set-getD, getD-set-same, getD-set-other, take-set-le, take-suc-set, getD-take}
 use Rattle.gf2.specs.Vector.{Row, entry}
 use Rattle.gf2.specs.Elimination.{Reduced, pivot, isZero, count, reduce, addIf, keepUnless}
 use Rattle.gf2.specs.Packed.{rowOf, Pivots, Reduces, oneMoreUnless}
@@ -75,6 +77,11 @@ pub pivots-set : (ps : List ℕ) (t : List Row) (k row : ℕ) (v : Row) (t′ : 
 pivots-set ps t k row v t′ e h p j l =
     (p j l .0 ∙ ap pivot (sym (ap (λ s. rowOf s j) e ∙ getD-set-other t row j v [] (omega arith))), p j l .1)
 
+-- only the first k rows matter
+pub pivots-same : (ps : List ℕ) (t : List Row) (k : ℕ) (t′ : List Row) → take k t′ ≡ take k t → Pivots ps t k → Pivots ps t′ k
+pivots-same ps t k t′ e p j l =
+    (p j l .0 ∙ ap pivot (sym (getD-take k t j [] l) ∙ ap (λ s. rowOf s j) (sym e) ∙ getD-take k t′ j [] l), p j l .1)
+
 -- one row more has its pivot stored
 pub pivots-more : (ps : List ℕ) (t : List Row) (k c : ℕ) → Pivots ps t k → k < length ps → c ≡ pivot (rowOf t k) → c < 512 → Pivots (set ps k c) t (k + 1)
 pivots-more ps t k c p l e h j i = elim (decLt j k) [
@@ -85,8 +92,14 @@ pivots-more ps t k c p l e h j i = elim (decLt j k) [
       (x ∙ e ∙ ap (λ i. pivot (rowOf t i)) (sym y), rw x h)
 ]
 
--- the kept rows after a row was stored behind them, which is kept or not
-pub kept-more : (b : Bool) (t : List Row) (k : ℕ) (v : Row) → k < length t → take (oneMoreUnless b k) (set t k v) ≡ keepUnless b (take k t) v
+-- the first members of a list after one was stored behind them, which is kept or not
+pub kept-more : {A : Type 0} (b : Bool) (t : List A) (k : ℕ) (v : A) → k < length t → take (oneMoreUnless b k) (set t k v) ≡ keepUnless b (take k t) v
 unfolding keepUnless
 kept-more true t k v l = take-set-le k t k v (le-refl k)
 kept-more false t k v l = rw add-one (take-suc-set t k v l)
+
+-- the images of a list with one more member, or none
+pub keep-map : {A B : Type 0} (f : A → B) (b : Bool) (xs : List A) (x : A) → map f (keepUnless b xs x) ≡ keepUnless b (map f xs) (f x)
+unfolding keepUnless
+keep-map f true xs x = refl
+keep-map f false xs x = map-append f xs (x ∷ [])

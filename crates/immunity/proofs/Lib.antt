@@ -17,4 +17,6 @@ pub mod Judging
 pub mod Demand1
 pub mod Demand2
 pub mod Demand3
+pub mod Following
+pub mod Combining
 pub mod Cases

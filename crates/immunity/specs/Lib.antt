@@ -7,6 +7,7 @@ pub mod NewRow
 pub mod Judgement
 pub mod Ranks
 pub mod Certificate
+pub mod Combination
 pub mod Judge
 pub mod Certify
 pub mod HandOver

@@ -1,6 +1,8 @@
 -- The points of a mask are taken in the workspace.
 --   takes             a row copied behind the kept rows, reduced, and kept or not, is taken as the definition says
 --   pointsTo b a      the points of the mask b below a
+--   points-yes        with the next number, which is a point of the mask
+--   points-no         with the next number, which is not
 --   eliminates-none   no point is taken yet
 --   eliminates-yes    the next number is a point of the mask
 --   eliminates-no     it is not
@@ -43,6 +45,17 @@ takes t₀ t₁ t₂ k k′ n v l s e r f g h =
 abbrev pub pointsTo : List ℕ → ℕ → List ℕ
 pointsTo b a = filter (member b) (below a)
 
+module _ (b : List ℕ) (a : ℕ) where
+  -- the next number is a point of the mask
+  pub points-yes : member b a ≡ true → pointsTo b (a + 1) ≡ pointsTo b a ++ (a ∷ [])
+  unfolding consIf
+  points-yes e = filter-below (member b) a ∙ ap (λ z. pointsTo b a ++ consIf z a []) e
+
+  -- it is not
+  pub points-no : member b a ≡ false → pointsTo b (a + 1) ≡ pointsTo b a
+  unfolding consIf
+  points-no e = filter-below (member b) a ∙ ap (λ z. pointsTo b a ++ consIf z a []) e ∙ append-nil (pointsTo b a)
+
 module _ (t : List Row) (c : ℕ) (b : List ℕ) where
   -- no point is taken yet
   pub eliminates-none : Eliminates t t c (pointsTo b 0) 0 0
@@ -52,13 +65,12 @@ module _ (t : List Row) (c : ℕ) (b : List ℕ) where
   -- the next number is a point of the mask
   pub eliminates-yes : (t′ t″ : List Row) (a k n k′ m : ℕ) → Eliminates t t′ c (pointsTo b a) k n → member b a ≡ true
       → Takes t′ t″ k k′ (cut c (rowOf t′ (512 + a))) m → Eliminates t t″ c (pointsTo b (a + 1)) k′ (n + m)
-  unfolding takePoint consIf
+  unfolding takePoint
   eliminates-yes t′ t″ a k n k′ m h e s =
       let ps : List ℕ = pointsTo b a in
       let old : Elimination = eliminate (stored t c) ps in
-      let more : pointsTo b (a + 1) ≡ ps ++ (a ∷ []) = filter-below (member b) a ∙ ap (λ z. ps ++ consIf z a []) e in
       let next : eliminate (stored t c) (pointsTo b (a + 1)) ≡ takePoint (stored t c) old a =
-      ap (eliminate (stored t c)) more ∙ eliminate-snoc (stored t c) ps a in
+      ap (eliminate (stored t c)) (points-yes b a e) ∙ eliminate-snoc (stored t c) ps a in
       let row : stored t c a ≡ cut c (rowOf t′ (512 + a)) =
       ap (cut c) (sym (getD-drop 512 t a []) ∙ ap (λ x. getD x a []) (sym (h .stays)) ∙ getD-drop 512 t′ a []) in
       let same : reduce (old .kept) (stored t c a) ≡ reduce (take k t′) (cut c (rowOf t′ (512 + a))) = ap₂ reduce (h .kept) row in
@@ -70,7 +82,4 @@ module _ (t : List Row) (c : ℕ) (b : List ℕ) where
 
   -- it is not
   pub eliminates-no : (t′ : List Row) (a k n : ℕ) → Eliminates t t′ c (pointsTo b a) k n → member b a ≡ false → Eliminates t t′ c (pointsTo b (a + 1)) k n
-  unfolding consIf
-  eliminates-no t′ a k n h e =
-      let same : pointsTo b (a + 1) ≡ pointsTo b a = filter-below (member b) a ∙ ap (λ z. pointsTo b a ++ consIf z a []) e ∙ append-nil (pointsTo b a) in
-      rw same h
+  eliminates-no t′ a k n h e = rw (points-no b a e) h
