@@ -9,6 +9,7 @@
 --   filter-filter     of two tests the second of which is implied by the first, the first decides
 --   filter-all        a test that each passes keeps all
 --   length-filter     no more are kept than there are
+--   filter-fewer      fewer are kept where a member does not pass
 --   filter-snoc       what a test keeps of a list with one number more at its end
 --   Distinct xs       no number stands twice in the list
 --   distinct-places   a list whose places hold different numbers is distinct
@@ -132,6 +133,15 @@ length-filter t [] = omega arith
 length-filter t (x ∷ xs) =
     let later : length (filter t xs) ≤ length xs = length-filter t xs in
     filter-cases (λ l. length l ≤ suc (length xs)) t x xs (λ e. omega (arith, later)) (λ e. omega (arith, later))
+
+-- fewer are kept where a member does not pass
+pub filter-fewer : (t : ℕ → Bool) (xs : List ℕ) {a : ℕ} → List·Memᴰ a xs → t a ≡ false → length (filter t xs) < length xs
+filter-fewer t [] m e = absurd (List·Memᴰ·not-nil m)
+filter-fewer t (x ∷ xs) (List·Memᴰ·head i) e =
+    filter-cases (λ l. length l < suc (length xs)) t x xs (λ f. absurd (false≢true (sym e ∙ ap t i ∙ f))) (λ f. omega (arith, length-filter t xs))
+filter-fewer t (x ∷ xs) (List·Memᴰ·tail m) e =
+    let later : length (filter t xs) < length xs = filter-fewer t xs m e in
+    filter-cases (λ l. length l < suc (length xs)) t x xs (λ f. omega (arith, later)) (λ f. omega (arith, later))
 
 -- what a test keeps of a list with one number more at its end
 pub filter-snoc : (t : ℕ → Bool) (xs : List ℕ) (x : ℕ) → filter t (xs ++ (x ∷ [])) ≡ filter t xs ++ consIf (t x) x []

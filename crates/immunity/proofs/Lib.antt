@@ -19,4 +19,5 @@ pub mod Demand2
 pub mod Demand3
 pub mod Following
 pub mod Combining
+pub mod Outside
 pub mod Cases

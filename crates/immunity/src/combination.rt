@@ -8,7 +8,7 @@ ghost use Rattle.gf2.specs.Vector.{unit};
 ghost use Rattle.gf2.specs.Elimination.{isZero};
 ghost use Rattle.gf2.specs.Packed.{unpacked, rowOf, zeroRow, padded, Pivots, Places, oneMoreUnless};
 ghost use Rattle.matrix.specs.Workspace.{stored};
-ghost use Rattle.immunity.specs.Combination.{followed, Combines, OutsidePlaces};
+ghost use Rattle.immunity.specs.Combination.{followed, Combines, OutsidePlaces, isOutside, Sums};
 use cube::POINTS;
 use gf2::basis::keep;
 use gf2::basis::reduce_both;
@@ -73,4 +73,54 @@ pub fn eliminate_combining(
         q += 1;
     }
     kept
+}
+
+// Whether the point `a` is in `set` and outside `part`.
+pub fn is_outside(set: &[u8], part: &[u8], a: usize) -> bool
+    requires { ⌜ (length (now set) ≡ 512) × (length (now part) ≡ 512) × (a < 512) ⌝ }
+    ensures { λ r. ⌜ r ≡ isOutside (now (set .entry)) (now (part .entry)) a ⌝ }
+{
+    if set[a] == 1 {
+        return part[a] != 1;
+    }
+    false
+}
+
+// The sum of the combinations of the rows that are added to the row of the point `a` is put in its place.
+fn combine_point(
+    ws: &mut [u64],
+    pivots: &[u16],
+    places: &[u16],
+    kept: usize,
+    a: usize,
+    columns: usize,
+)
+    requires { ⌜ (length (now ws) ≡ 8192) × (length (now pivots) ≡ 512) × (length (now places) ≡ 512) × (kept < 512) × (a < 512) × Pivots (now pivots) (unpacked (now ws)) kept × Places (now places) kept (512 + a) ⌝ }
+    ensures { λ _. ⌜ unpacked (now (ws .exit)) ≡ followed columns kept a zeroRow (now (places .entry)) (unpacked (now (ws .entry))) ⌝ }
+{
+    move_row(ws, kept, a, columns);
+    reduce_both(ws, pivots, places, kept, kept, FIRST_POINT + a);
+}
+
+// For each point of `set` outside `part` the sum of the combinations of the rows that are added to its row is put in
+// its place.
+pub fn combine_outside(
+    ws: &mut [u64],
+    pivots: &[u16],
+    places: &[u16],
+    kept: usize,
+    set: &[u8],
+    part: &[u8],
+    columns: usize,
+)
+    requires { ⌜ (length (now ws) ≡ 8192) × (length (now pivots) ≡ 512) × (length (now places) ≡ 512) × (length (now set) ≡ 512) × (length (now part) ≡ 512) × (kept ≤ length (points (now part))) × Pivots (now pivots) (unpacked (now ws)) kept × OutsidePlaces (now places) kept (now part) ⌝ }
+    ensures { λ _. ⌜ Sums (unpacked (now (ws .entry))) (unpacked (now (ws .exit))) columns kept (now (places .entry)) (now (set .entry)) (now (part .entry)) 512 ⌝ }
+{
+    let mut a: usize = 0;
+    while a < POINTS {
+        if is_outside(set, part, a) {
+            combine_point(ws, pivots, places, kept, a, columns);
+        }
+        a += 1;
+    }
 }
