@@ -1,19 +1,25 @@
 -- Rows made into numbers.
 --   number-bound   a row of n columns makes a number of n bits
 --   bits-number    whose bits are the row
+--   number-bits    the bits of a number make it
+--   row-word       64 columns of a row of the workspace make its number
+--   number-padded  zeros behind a row change no number
 --   pack-at        number k of a row is made of 64 of its columns
 --   length-pack    m numbers
 --   unpack-pack    the numbers of a row hold the row
 use mathlib.Core.Path.{_≡_, refl, sym, ap, ap₂, _∙_}
 use mathlib.Core.Bool.{true, false}
-use mathlib.Core.List.{[], _∷_, _++_}
-use Prim.Native.Nat.{ℕ, zero, suc, _+_, _*_, _/_, _%_, _^_, _<_}
+use mathlib.Core.List.{List, [], _∷_, _++_}
+use Prim.Native.Nat.{ℕ, zero, suc, _+_, _*_, _/_, _%_, _^_, _≤_, _<_}
+use native.Mathlib.Decide.{decLt}
 use native.Mathlib.Nat.{pow-suc}
 use native.Mathlib.Omega.{arith}
 use lib.ListN.{length, getD, take, drop, length-drop, take-append-drop}
-use lib.Seq.{length-take-le, drop-drop}
+use lib.Seq.{length-take-le, take-nil, drop-nil, take-at, drop-append-add, drop-drop}
 use Rattle.gf2.specs.Vector.{Row}
-use Rattle.gf2.specs.Packed.{bitsOf, unpack, number, pack}
+use Rattle.gf2.specs.Packed.{odd, bitsOf, unpack, unpacked, rowOf, padded, digit, number, pack}
+use Rattle.gf2.proofs.Bitwise.{length-bits}
+use Rattle.gf2.proofs.Rows.{words, getD-words, length-words, row-at}
 
 -- a row of n columns makes a number of n bits
 pub number-bound : (v : Row) → number v < 2 ^ length v
@@ -34,6 +40,60 @@ bits-number (false ∷ v) =
     let low : (number v * 2 + 0) % 2 ≡ 0 = omega arith in
     let high : (number v * 2 + 0) / 2 ≡ number v = omega arith in
     rw (low, high) (ap (λ w. false ∷ w) (bits-number v))
+
+-- a bit above a number
+two-digits : (a : ℕ) → a / 2 * 2 + digit (odd a) ≡ a
+two-digits a = elim (decLt (a % 2) 1) [
+  | yes l ↦ let e : a % 2 ≡ 0 = omega arith in rw e (omega arith)
+  | no l ↦ let e : a % 2 ≡ 1 = omega arith in rw e (omega arith)
+]
+
+-- the bits of a number make it
+pub number-bits : (n a : ℕ) → a < 2 ^ n → number (bitsOf n a) ≡ a
+unfolding number bitsOf
+number-bits zero a l = omega arith
+number-bits (suc n) a l =
+    let later : number (bitsOf n (a / 2)) ≡ a / 2 = number-bits n (a / 2) (omega (arith, pow-suc 2 n)) in
+    ap (λ m. m * 2 + digit (odd a)) later ∙ two-digits a
+
+-- 64 columns of the row in a list of numbers make a number
+word-columns : (u : List ℕ) (k : ℕ) → k < length u → getD u k 0 < 2 ^ 64 → number (take 64 (drop (k * 64) (unpack u))) ≡ getD u k 0
+unfolding unpack
+word-columns [] k h b = absurd (omega arith)
+word-columns (w ∷ u) zero h b =
+    ap number (take-at (bitsOf 64 w) (unpack u) 64 (length-bits 64 w)) ∙ number-bits 64 w b
+word-columns (w ∷ u) (suc k) h b =
+    let e : suc k * 64 ≡ length (bitsOf 64 w) + k * 64 = rw length-bits (omega arith) in
+    ap (λ n. number (take 64 (drop n (bitsOf 64 w ++ unpack u)))) e
+    ∙ ap (λ v. number (take 64 v)) (drop-append-add (bitsOf 64 w) (unpack u) (k * 64))
+    ∙ word-columns u k (omega arith) b
+
+-- 64 columns of a row of the workspace make its number
+pub row-word : (ws : List ℕ) (j k : ℕ) → length ws ≡ 8192 → j < 1024 → k < 8 → getD ws (j * 8 + k) 0 < 2 ^ 64
+    → number (take 64 (drop (k * 64) (rowOf (unpacked ws) j))) ≡ getD ws (j * 8 + k) 0
+row-word ws j k l h g b =
+    let same : getD (words ws j) k 0 ≡ getD ws (j * 8 + k) 0 = getD-words ws j k g in
+    ap (λ v. number (take 64 (drop (k * 64) v))) (row-at 1024 ws j h)
+    ∙ word-columns (words ws j) k (rw (length-words ws j (omega arith)) g) (rw same b)
+    ∙ same
+
+-- zeros behind a row do not change the number of its first columns
+front-padded : (w m : ℕ) (v : Row) → w ≤ m → number (take w (padded m v)) ≡ number (take w v)
+unfolding number padded
+front-padded zero m v l = refl
+front-padded (suc w) zero v l = absurd (omega arith)
+front-padded (suc w) (suc m) [] l =
+    let later : number (take w (padded m [])) ≡ 0 = front-padded w m [] (omega arith) ∙ ap number (take-nil w) in
+    ap (λ x. x * 2 + 0) later
+front-padded (suc w) (suc m) (x ∷ v) l = ap (λ y. y * 2 + digit x) (front-padded w m v (omega arith))
+
+-- zeros behind a row change no number of its columns
+pub number-padded : (w j m : ℕ) (v : Row) → j + w ≤ m → number (take w (drop j (padded m v))) ≡ number (take w (drop j v))
+unfolding padded
+number-padded w zero m v l = front-padded w m v (omega arith)
+number-padded w (suc j) zero v l = absurd (omega arith)
+number-padded w (suc j) (suc m) [] l = number-padded w j m [] (omega arith) ∙ ap (λ v. number (take w v)) (drop-nil j)
+number-padded w (suc j) (suc m) (x ∷ v) l = number-padded w j m v (omega arith)
 
 -- a row is made into m numbers
 pub length-pack : (m : ℕ) (v : Row) → length (pack m v) ≡ m

@@ -20,4 +20,5 @@ pub mod Demand3
 pub mod Following
 pub mod Combining
 pub mod Outside
+pub mod OutsideWords
 pub mod Cases

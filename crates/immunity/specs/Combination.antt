@@ -5,16 +5,20 @@
 --   isOutside s b a            the mask s marks the point a, and the mask b does not
 --   sumAt t c k ps a           the sum of the combinations of the rows that are added to the row of the point a
 --   Sums t t′ c k ps s b a     the sums of the points below a that are in the set s and outside the part b stand in their places
+--   outsideRow s b t a         the row in the place of the point a where it is in the set s and outside the part b, else none
+--   written s b t              the 4,096 numbers of these rows
 use mathlib.Core.Path.{_≡_}
 use mathlib.Core.Bool.{Bool, true, false, not, _&&_}
 use mathlib.Core.List.{List, map, List·Memᴰ}
 use Prim.Native.Nat.{ℕ, _+_, _≤_, _<_}
 use lib.ListN.{set, take}
+use Rattle.cube.specs.Numbers.{below}
 use Rattle.cube.specs.Mask.{member}
 use Rattle.gf2.specs.Vector.{Row, add, total, chosen}
 use Rattle.gf2.specs.Elimination.{reduce, eliminate}
 use Rattle.gf2.specs.Packed.{rowOf, padded, zeroRow, Places, reducedBoth}
 use Rattle.matrix.specs.Workspace.{stored}
+use Rattle.immunity.specs.Certificate.{rowIf, numberAt}
 
 -- c columns of the row of the point a are reduced by the first k rows, and its place, with the row x there, follows
 unfoldable pub followed : ℕ → ℕ → ℕ → Row → List ℕ → List Row → List Row
@@ -45,3 +49,12 @@ pub record Sums (t t′ : List Row) (c k : ℕ) (ps s b : List ℕ) (a : ℕ) : 
   pub combinations : map (rowOf t′) (take k ps) ≡ map (rowOf t) (take k ps)
   pub later : (j : ℕ) → a ≤ j → rowOf t′ (512 + j) ≡ rowOf t (512 + j)
   pub sums : (j : ℕ) → j < a → isOutside s b j ≡ true → rowOf t′ (512 + j) ≡ sumAt t c k ps j
+
+-- the row in the place of a point that is in the set and outside the part, else none
+unfoldable pub outsideRow : List ℕ → List ℕ → List Row → ℕ → Row
+unfolding rowIf
+outsideRow s b t a = rowIf (isOutside s b a) (rowOf t (512 + a))
+
+-- the numbers of these rows
+abbrev pub written : List ℕ → List ℕ → List Row → List ℕ
+written s b t = map (numberAt (outsideRow s b t)) (below 4096)
