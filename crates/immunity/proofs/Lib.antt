@@ -21,4 +21,5 @@ pub mod Following
 pub mod Combining
 pub mod Outside
 pub mod OutsideWords
+pub mod Certified
 pub mod Cases
