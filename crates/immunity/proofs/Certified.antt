@@ -3,7 +3,7 @@
 --   combined-count        the part's kept rows are as many as its rank
 --   certified-row         the sum for a point outside the part is that of the definition, continued by zeros
 --   written-certificate   so the numbers written are the certificate
-use mathlib.Core.Path.{_≡_, refl, sym, ap, ap₂, _∙_, subst}
+use mathlib.Core.Path.{_≡_, refl, sym, ap, ap₂, _∙_}
 use mathlib.Core.Bool.{Bool, true, false, not, _&&_, false≢true}
 use mathlib.Core.List.{List, [], map, List·Memᴰ}
 use Prim.Native.Nat.{ℕ, _+_, _*_, _/_, _%_, _≤_, _<_}
@@ -17,7 +17,7 @@ use Rattle.cube.specs.Order.{Graded, columns}
 use Rattle.cube.proofs.Listed.{and-both, lists-member, not-listed}
 use Rattle.cube.proofs.Masks.{member-from, member-points}
 use Rattle.gf2.specs.Vector.{Row, add, total, chosen}
-use Rattle.gf2.specs.Elimination.{Reduced, reduce, Elimination, eliminate}
+use Rattle.gf2.specs.Elimination.{Reduced, reduce, Elimination}
 use Rattle.gf2.specs.Packed.{rowOf, zeroRow, cut, padded, number}
 use Rattle.gf2.proofs.Each.{member-each, map-each}
 use Rattle.gf2.proofs.Packing.{number-padded}

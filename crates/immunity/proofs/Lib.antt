@@ -22,4 +22,5 @@ pub mod Combining
 pub mod Outside
 pub mod OutsideWords
 pub mod Certified
+pub mod Certifying
 pub mod Cases

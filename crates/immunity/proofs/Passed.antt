@@ -3,8 +3,9 @@
 --   judge-passed      what Judge accepts has passed its checks, and is judged as the definition says
 --   judge-accepts     what passes the checks is accepted
 --   some-member       a list that is not empty has a member
+--   certify-compares  of the checks of Certify only that of the ranks is then left
 --   certify-accepts   Certify then accepts each side and degree at which the ranks are equal, and writes the definition's certificate
-use mathlib.Core.Path.{_≡_, refl, sym}
+use mathlib.Core.Path.{_≡_, refl, sym, _∙_}
 use mathlib.Core.Bool.{true, false, not, false≢true}
 use mathlib.Core.List.{List, [], _∷_, List·Memᴰ, List·Memᴰ·head}
 use Prim.Native.Nat.{ℕ, _≤_}
@@ -15,8 +16,8 @@ use Rattle.cube.specs.Numbers.{isEmpty}
 use Rattle.cube.specs.Cube.{taps}
 use Rattle.cube.specs.Mask.{wellFormed, points}
 use Rattle.cube.specs.BuiltIn.{graded}
-use Rattle.refusal.specs.Outcome.{Outcome, accepted, Check, _otherwise_}
-use Rattle.refusal.specs.declared.Refusal.the-variants.{Length, Taps, Bytes, EmptySet}
+use Rattle.refusal.specs.Outcome.{Outcome, accepted, Check, _otherwise_, checked}
+use Rattle.refusal.specs.declared.Refusal.the-variants.{Length, Taps, Bytes, EmptySet, RanksDiffer}
 use Rattle.refusal.proofs.Accepted.{check-passed}
 use Rattle.immunity.specs.Judgement.{Judgement, EqualRanks, differs, judged}
 use Rattle.immunity.specs.Certificate.{certificate}
@@ -71,19 +72,26 @@ unfolding isEmpty
 some-member [] e = absurd (false≢true (sym e))
 some-member (x ∷ xs) e = (x, List·Memᴰ·head refl)
 
--- Certify accepts each side and degree at which the ranks are equal, and writes the definition's certificate
-pub certify-accepts : (n : ℕ) (s f : List ℕ) → Passed n s f → (side d : ℕ) → side ≤ 1 → d ≤ n → EqualRanks graded n s f side d
-    → CertifyAccepts n s f side d (certificate graded n s f side d)
-unfolding certifyOutcome differs
-certify-accepts n s f p side d l m e =
+-- of the checks of Certify only that of the ranks is left
+pub certify-compares : (n : ℕ) (s f : List ℕ) → Passed n s f → (side d : ℕ) → side ≤ 1 → d ≤ n → (m l : ℕ) → m ≡ 8192 → l ≡ 4096
+    → certifyOutcome s f n side d m l ≡ checked (not (differs graded n s f d side) otherwise RanksDiffer ∷ []) (accepted (certificate graded n s f side d))
+unfolding certifyOutcome
+certify-compares n s f p side d up low m l workspace long =
     rw (
       eq-eqb (length s) 512 (p .set-long),
       eq-eqb (length f) 512 (p .table-long),
+      eq-eqb m 8192 workspace,
+      eq-eqb l 4096 long,
       p .tapped,
       p .set-formed,
       p .table-formed,
       p .some,
-      le-leb d n m,
-      le-leb side 1 l,
-      eq-eqb _ _ e,
+      le-leb d n low,
+      le-leb side 1 up,
     )
+
+-- Certify accepts each side and degree at which the ranks are equal, and writes the definition's certificate
+pub certify-accepts : (n : ℕ) (s f : List ℕ) → Passed n s f → (side d : ℕ) → side ≤ 1 → d ≤ n → EqualRanks graded n s f side d
+    → CertifyAccepts n s f side d (certificate graded n s f side d)
+unfolding differs
+certify-accepts n s f p side d l m e = certify-compares n s f p side d l m 8192 4096 refl refl ∙ rw (eq-eqb _ _ e)
