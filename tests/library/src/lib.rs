@@ -1,12 +1,18 @@
 // Safe calls of the proved static library. Each answers what the library wrote, or the number of its refusal.
 // Lent buffers may have any length: the library judges it.
+mod certify;
 mod convert;
 mod degree;
+mod hand_over;
+mod judge;
 mod rank;
 mod read;
 
+pub use certify::certify;
 pub use convert::convert;
 pub use degree::degree;
+pub use hand_over::hand_over;
+pub use judge::judge;
 pub use rank::rank;
 pub use read::read;
 

@@ -1,0 +1,278 @@
+// Judge and Certify of the static library, compared with the independent implementation.
+use independent::judgement::{Filter, Judgement, certify, judge};
+use independent::random::Random;
+use independent::samples::{Tally, mask_of, pairs};
+use std::hint::black_box;
+
+const SIDES: [u8; 2] = [1, 0];
+
+type Judge = fn(Filter, &mut [u64], &mut [u8], &mut [u8]) -> Result<Judgement, u8>;
+type Certify = fn(Filter, u8, usize, &mut [u64], &mut [u64]) -> Result<(), u8>;
+
+// What the operation answers when it is lent a copy of the set and of the table, which stay as they were.
+fn lend<A>(filter: Filter, operation: impl FnOnce(Filter) -> A) -> A {
+    let (set, table) = (filter.set.to_vec(), filter.table.to_vec());
+    let answer = operation(Filter { n: filter.n, set: black_box(&set), table: black_box(&table) });
+    assert_eq!(black_box((&set[..], &table[..])), (filter.set, filter.table), "the set and the table at exit");
+    answer
+}
+
+// Both Judges with a workspace and witness buffers of these lengths full of random content: the same answer and the
+// same whole buffers; the workspace zero where it is accepted, and every buffer as it was where it is refused.
+fn lend_judge(random: &mut Random, filter: Filter, [workspace, one, zero]: [usize; 3]) -> Result<Judgement, u8> {
+    let entry = (random.words(workspace), [one, zero].map(|length| random.bytes(length)));
+    let [(proved, exit), (plain, plain_exit)] = [library::judge as Judge, judge].map(|judge| {
+        let (mut workspace, [mut one, mut zero]) = entry.clone();
+        let answer = lend(filter, |lent| judge(lent, &mut workspace, &mut one, &mut zero));
+        (answer, (workspace, [one, zero]))
+    });
+    assert_eq!(proved, plain, "Judge of {filter:?}");
+    assert_eq!(exit.1, plain_exit.1, "the witness buffers after Judge of {filter:?}");
+    assert!(exit.0 == plain_exit.0, "the workspace after Judge of {filter:?}");
+    match proved {
+        Ok(_) => assert!(exit.0.iter().all(|word| *word == 0), "numbers left in the workspace"),
+        Err(number) => assert!(exit == entry, "refusal {number} wrote in a buffer"),
+    }
+    proved
+}
+
+// Both Certifies with a workspace and a certificate of these lengths full of random numbers: the same answer and the
+// same whole buffers; the workspace zero where it is accepted or refused by 12, and else every buffer as it was.
+fn lend_certify(random: &mut Random, filter: Filter, side: u8, d: usize, lengths: [usize; 2]) -> Result<(), u8> {
+    let entry = lengths.map(|length| random.words(length));
+    let [(proved, exit), (plain, plain_exit)] = [library::certify as Certify, certify].map(|certify| {
+        let [mut workspace, mut certificate] = entry.clone();
+        let answer = lend(filter, |lent| certify(lent, side, d, &mut workspace, &mut certificate));
+        (answer, [workspace, certificate])
+    });
+    assert_eq!(proved, plain, "Certify of {filter:?}, side {side}, d = {d}");
+    assert!(exit == plain_exit, "the buffers after Certify of {filter:?}, side {side}, d = {d}");
+    let cleared = matches!(proved, Ok(()) | Err(12));
+    assert!(!cleared || exit[0].iter().all(|word| *word == 0), "numbers left in the workspace");
+    assert!(cleared || exit[0] == entry[0], "a refusal wrote in the workspace");
+    assert!(proved.is_ok() || exit[1] == entry[1], "a refusal wrote in the certificate");
+    proved
+}
+
+// Judge of the filter, and Certify at every side and degree, which refuses exactly where the ranks of Judge differ.
+fn compare(random: &mut Random, n: usize, set: &[u8], table: &[u8]) -> Judgement {
+    let filter = Filter { n, set, table };
+    let judgement = lend_judge(random, filter, [8192, 512, 512]).expect("accepted");
+    for (d, side) in (0..=n).flat_map(|d| SIDES.map(|side| (d, side))) {
+        let ranks = judgement.ranks[d];
+        let equal = ranks[0] == ranks[2 - usize::from(side)];
+        let answer = lend_certify(random, filter, side, d, [8192, 4096]);
+        assert_eq!(answer, if equal { Ok(()) } else { Err(12) }, "Certify of {filter:?}, side {side}, d = {d}");
+    }
+    judgement
+}
+
+// Every table of n taps with each of the sets, which are numbers: bit a for the point a.
+fn compare_sets(seed: u64, n: usize, sets: impl Iterator<Item = usize>) {
+    let mut random = Random(seed);
+    let mask = |bits: usize| mask_of(n, |a| bits >> a & 1 == 1);
+    for (set, table) in sets.flat_map(|set| (0..1 << (1 << n)).map(move |table| (set, table))) {
+        compare(&mut random, n, &mask(set), &mask(table));
+    }
+}
+
+#[test]
+fn every_set_and_table_of_one_and_two_taps() {
+    compare_sets(1, 1, 1..4);
+    compare_sets(2, 2, 1..16);
+}
+
+#[test]
+fn every_set_of_three_taps_without_the_point_7_and_every_table() {
+    compare_sets(3, 3, 1..128);
+}
+
+#[test]
+fn every_set_of_three_taps_with_the_point_7_and_every_table() {
+    compare_sets(4, 3, 128..256);
+}
+
+// So many filters of n taps for each kind of set and each kind of table.
+fn compare_kinds(seed: u64, n: usize, count: usize) {
+    let mut random = Random(seed);
+    for (for_set, for_table) in pairs(&[0, 1, 2, 3, 4, 5], &[0, 1, 2, 3, 4]) {
+        for _ in 0..count {
+            let (set, table) = (random.set(n, for_set), random.table(n, for_table));
+            let judgement = compare(&mut random, n, &set, &table);
+            assert!(judgement.degree <= n.div_ceil(2) || for_set != 0, "over the mark on the whole cube");
+        }
+    }
+}
+
+#[test]
+fn every_kind_of_filter_of_four_to_six_taps() {
+    compare_kinds(5, 4, 50);
+    compare_kinds(6, 5, 30);
+    compare_kinds(7, 6, 20);
+}
+
+#[test]
+fn every_kind_of_filter_of_seven_and_eight_taps() {
+    compare_kinds(8, 7, 10);
+    compare_kinds(9, 8, 5);
+}
+
+#[test]
+fn every_kind_of_filter_of_nine_taps() {
+    compare_kinds(10, 9, 2);
+}
+
+#[test]
+fn starred_case_7() {
+    let [set, table] = [&[0, 3, 5, 6, 9, 10, 12, 15][..], &[6, 10, 12, 15]].map(|s| mask_of(4, |a| s.contains(&a)));
+    let judgement = compare(&mut Random(11), 4, &set, &table);
+    assert_eq!((judgement.ranks[1], judgement.degree), ([4, 4, 4], 2));
+}
+
+// What Judge or Certify is asked and lent; of the buffers besides the set and the table only the lengths.
+struct Call {
+    n: usize,
+    set: Vec<u8>,
+    table: Vec<u8>,
+    side: u8,
+    d: usize,
+    workspace: usize,
+    witnesses: [usize; 2],
+    certificate: usize,
+}
+
+impl Call {
+    // A call that both accept: the points 0 and 1 are in different parts.
+    fn good(random: &mut Random, n: usize) -> Call {
+        let (mut set, mut table) = (random.mask(n, 4), random.mask(n, 4));
+        set[..2].fill(1);
+        table[..2].copy_from_slice(&[0, 1]);
+        let side = random.pick(&SIDES);
+        Call { n, set, table, side, d: 0, workspace: 8192, witnesses: [512, 512], certificate: 4096 }
+    }
+
+    // The filter that is lent.
+    fn filter(&self) -> Filter<'_> {
+        Filter { n: self.n, set: &self.set, table: &self.table }
+    }
+}
+
+// The byte at the place becomes the value, if there is such a place.
+fn put(bytes: &mut [u8], place: usize, value: u8) {
+    bytes.iter_mut().skip(place).take(1).for_each(|byte| *byte = value);
+}
+
+// What makes a call wrong; the first does not.
+type Fault = fn(&mut Call);
+
+// What both operations check: lengths, n, the bytes of the set and of the table, and that the set has a point.
+const FAULTS: [Fault; 25] = [
+    |_| (),
+    |call| call.set.truncate(511),
+    |call| call.set.push(0),
+    |call| call.set.clear(),
+    |call| call.table.truncate(511),
+    |call| call.table.push(0),
+    |call| call.table.clear(),
+    |call| call.workspace = 8191,
+    |call| call.workspace = 8193,
+    |call| call.workspace = 0,
+    |call| call.n = 0,
+    |call| call.n = 10,
+    |call| call.n = 64,
+    |call| call.n = usize::MAX,
+    |call| call.n = call.n.saturating_sub(1),
+    |call| put(&mut call.set, 0, 2),
+    |call| put(&mut call.set, (1 << call.n.min(9)) - 1, 255),
+    |call| put(&mut call.set, 1 << call.n.min(9), 1),
+    |call| put(&mut call.set, 511, 2),
+    |call| put(&mut call.table, 0, 2),
+    |call| put(&mut call.table, (1 << call.n.min(9)) - 1, 255),
+    |call| put(&mut call.table, 1 << call.n.min(9), 1),
+    |call| put(&mut call.table, 511, 2),
+    |call| call.set.fill(0),
+    |call| call.table.fill(0),
+];
+
+// What Judge alone checks: the lengths of the witness buffers.
+const JUDGE_FAULTS: [Fault; 5] = [
+    |call| call.witnesses[0] = 511,
+    |call| call.witnesses[0] = 513,
+    |call| call.witnesses[1] = 511,
+    |call| call.witnesses[1] = 513,
+    |call| call.witnesses = [0, 1024],
+];
+
+// What Certify alone checks: the length of the certificate, the degree, the side and the ranks, which differ at n.
+const CERTIFY_FAULTS: [Fault; 9] = [
+    |call| call.certificate = 4095,
+    |call| call.certificate = 4097,
+    |call| call.certificate = 0,
+    |call| call.d = call.n.wrapping_add(1),
+    |call| call.d = 10,
+    |call| call.d = usize::MAX,
+    |call| call.side = 2,
+    |call| call.side = 255,
+    |call| call.d = call.n,
+];
+
+// A call of every n with every two of the faults, one after the other; the numbers answered.
+fn lend_faults(seed: u64, own: &[Fault], operation: impl Fn(&mut Random, &Call) -> Result<(), u8>) -> Vec<usize> {
+    let (mut random, mut tally) = (Random(seed), Tally::default());
+    let faults = [&FAULTS, own].concat();
+    for (n, (first, second)) in pairs(&[1, 2, 3, 4, 5, 6, 7, 8, 9], &pairs(&faults, &faults)) {
+        let mut call = Call::good(&mut random, n);
+        first(&mut call);
+        second(&mut call);
+        tally.count(operation(&mut random, &call));
+    }
+    tally.numbers(9)
+}
+
+#[test]
+fn every_refusal_of_judge_and_every_pair_of_them_in_order() {
+    let numbers = lend_faults(12, &JUDGE_FAULTS, |random, call| {
+        let lengths = [call.workspace, call.witnesses[0], call.witnesses[1]];
+        lend_judge(random, call.filter(), lengths).map(|_| ())
+    });
+    assert_eq!(numbers, [0, 1, 4, 6, 8]);
+}
+
+#[test]
+fn every_refusal_of_certify_and_every_pair_of_them_in_order() {
+    let numbers = lend_faults(13, &CERTIFY_FAULTS, |random, call| {
+        lend_certify(random, call.filter(), call.side, call.d, [call.workspace, call.certificate])
+    });
+    assert_eq!(numbers, [0, 1, 4, 6, 8, 10, 11, 12]);
+}
+
+const MARGIN: usize = 64;
+
+// The part of a buffer that is lent.
+fn middle<T>(buffer: &mut [T]) -> &mut [T] {
+    let end = buffer.len() - MARGIN;
+    &mut buffer[MARGIN..end]
+}
+
+// Whether the buffer is as it was on both sides of its middle.
+fn margins_stay<T: PartialEq>(entry: &[T], exit: &[T]) -> bool {
+    let end = entry.len() - MARGIN;
+    entry[..MARGIN] == exit[..MARGIN] && entry[end..] == exit[end..]
+}
+
+#[test]
+fn nothing_outside_the_lent_buffers_is_written() {
+    let mut random = Random(14);
+    for n in 1..=9 {
+        let (set, table) = (random.set(n, 0), random.table(n, 0));
+        let filter = Filter { n, set: &set, table: &table };
+        let words = [8192, 4096].map(|length| random.words(MARGIN + length + MARGIN));
+        let bytes = [512, 512].map(|length| random.bytes(MARGIN + length + MARGIN));
+        let ([mut workspace, mut certificate], [mut one, mut zero]) = (words.clone(), bytes.clone());
+        let judged = library::judge(filter, middle(&mut workspace), middle(&mut one), middle(&mut zero));
+        assert!(judged.is_ok() && margins_stay(&words[0], &workspace));
+        assert!(margins_stay(&bytes[0], &one) && margins_stay(&bytes[1], &zero));
+        let certified = library::certify(filter, 1, 0, middle(&mut workspace), middle(&mut certificate));
+        assert!(certified.is_ok() && margins_stay(&words[0], &workspace) && margins_stay(&words[1], &certificate));
+    }
+}
