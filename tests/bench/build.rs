@@ -1,4 +1,4 @@
-// Compiles the elimination in C at -O3, where there is a C compiler.
+// Compiles the contenders in C at -O3, where there is a C compiler, and the ranks by M4RI, where that is installed.
 use std::path::Path;
 use std::process::Command;
 
@@ -7,17 +7,34 @@ fn succeeds(program: &str, words: &[&str]) -> bool {
     Command::new(program).args(words).status().is_ok_and(|status| status.success())
 }
 
-// Sets `has_c` where the C code was compiled.
-fn main() {
-    println!("cargo:rerun-if-changed=src/elimination.c");
-    println!("cargo:rustc-check-cfg=cfg(has_c)");
+// Compiles a file of src into the archive; whether that succeeded.
+fn compile(file: &str, archive: &Path) -> bool {
+    println!("cargo:rerun-if-changed=src/{file}.c");
+    let (source, object) = (format!("src/{file}.c"), archive.with_file_name(format!("{file}.o")).display().to_string());
+    succeeds("cc", &["-O3", "-c", &source, "-o", &object])
+        && succeeds("ar", &["rcs", &archive.display().to_string(), &object])
+}
+
+// Compiles files of src into a library, links it, and sets the condition; whether that succeeded.
+fn offer(library: &str, files: &[&str], condition: &str) -> bool {
     let folder = std::env::var("OUT_DIR").unwrap();
-    let object = Path::new(&folder).join("elimination.o").display().to_string();
-    let archive = Path::new(&folder).join("libelimination.a").display().to_string();
-    let compiled = succeeds("cc", &["-O3", "-c", "src/elimination.c", "-o", &object]);
-    if compiled && succeeds("ar", &["rcs", &archive, &object]) {
-        println!("cargo:rustc-link-search=native={folder}");
-        println!("cargo:rustc-link-lib=static=elimination");
-        println!("cargo:rustc-cfg=has_c");
+    let archive = Path::new(&folder).join(format!("lib{library}.a"));
+    println!("cargo:rustc-check-cfg=cfg({condition})");
+    if !files.iter().all(|file| compile(file, &archive)) {
+        println!("cargo:rerun-if-changed=absent"); // no such file: what is missing is looked for again in the next run
+        return false;
+    }
+    println!("cargo:rustc-link-search=native={folder}");
+    println!("cargo:rustc-link-lib=static={library}");
+    println!("cargo:rustc-cfg={condition}");
+    true
+}
+
+// Sets `has_c` where the C code was compiled, and `has_m4ri` where the code over M4RI was.
+fn main() {
+    println!("cargo:rerun-if-changed=src/elimination.h");
+    offer("contenders", &["elimination", "judge", "certify"], "has_c");
+    if offer("ranks_m4ri", &["ranks_m4ri"], "has_m4ri") {
+        println!("cargo:rustc-link-lib=m4ri");
     }
 }

@@ -1,26 +1,58 @@
-// The eliminations in C, where there was a compiler.
-use crate::timing::Contender;
+// The contenders in C; no_c.rs stands in the stead of this file where there was no compiler.
+use crate::contenders::{Certify, Judge, Rank};
+use independent::judgement::Judgement;
 use independent::rank::Ranking;
 
-#[cfg(has_c)]
 unsafe extern "C" {
     fn c_rank(mask: *const u8, n: usize, d: usize, workspace: *mut u64, additions: *mut u32) -> usize;
+    fn c_judge(
+        set: *const u8,
+        table: *const u8,
+        n: usize,
+        workspace: *mut u64,
+        one: *mut u8,
+        zero: *mut u8,
+        ranks: *mut [[usize; 3]; 10],
+        degree: *mut usize,
+        side: *mut u8,
+        additions: *mut u32,
+    );
+    fn c_certify(
+        set: *const u8,
+        table: *const u8,
+        n: usize,
+        side: u8,
+        d: usize,
+        workspace: *mut u64,
+        certificate: *mut u64,
+    ) -> u8;
 }
 
-// The rank of the mask's points of nine taps at degree d.
-#[cfg(has_c)]
-pub fn rank<'a>(mask: &'a [u8], d: usize) -> Option<Contender<'a, Ranking>> {
-    assert_eq!(mask.len(), 512);
-    Some(Box::new(move |workspace| {
-        assert_eq!(workspace.len(), 8192);
-        let mut additions = 0;
-        let rank = unsafe { c_rank(mask.as_ptr(), 9, d, workspace.as_mut_ptr(), &mut additions) };
-        Ranking { rank, additions }
-    }))
-}
+// Rank.
+pub const RANK: Option<Rank> = Some(|mask, n, d, workspace| {
+    assert_eq!((mask.len(), workspace.len()), (512, 8192));
+    let mut additions = 0;
+    let rank = unsafe { c_rank(mask.as_ptr(), n, d, workspace.as_mut_ptr(), &mut additions) };
+    Ranking { rank, additions }
+});
 
-// Nothing, for want of a compiler.
-#[cfg(not(has_c))]
-pub fn rank<'a>(_: &'a [u8], _: usize) -> Option<Contender<'a, Ranking>> {
-    None
-}
+// Judge.
+pub const JUDGE: Option<Judge> = Some(|filter, workspace, one, zero| {
+    assert_eq!((filter.set.len(), filter.table.len()), (512, 512));
+    assert_eq!((workspace.len(), one.len(), zero.len()), (8192, 512, 512));
+    let (set, table, workspace) = (filter.set.as_ptr(), filter.table.as_ptr(), workspace.as_mut_ptr());
+    let (one, zero) = (one.as_mut_ptr(), zero.as_mut_ptr());
+    let mut answer = Judgement { ranks: [[0; 3]; 10], degree: 0, side: 0, additions: 0 };
+    let Judgement { ranks, degree, side, additions } = &mut answer;
+    unsafe { c_judge(set, table, filter.n, workspace, one, zero, ranks, degree, side, additions) };
+    answer
+});
+
+// Certify.
+pub const CERTIFY: Option<Certify> = Some(|filter, side, d, workspace, certificate| {
+    assert_eq!((filter.set.len(), filter.table.len()), (512, 512));
+    assert_eq!((workspace.len(), certificate.len()), (8192, 4096));
+    let (set, table, workspace) = (filter.set.as_ptr(), filter.table.as_ptr(), workspace.as_mut_ptr());
+    let status = unsafe { c_certify(set, table, filter.n, side, d, workspace, certificate.as_mut_ptr()) };
+    if status == 0 { Ok(()) } else { Err(status) }
+});

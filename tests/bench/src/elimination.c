@@ -1,12 +1,9 @@
 // The elimination of the proved kernel in C: packed rows of eight words, made once; kept rows with stored pivots.
-#include <stdint.h>
-#include <stddef.h>
+#include "elimination.h"
 #include <string.h>
 
-enum { POINTS = 512, WORDS = 8 };
-
 // The graded order, by weight and by number within a weight.
-static const uint16_t *graded_order(void) {
+const uint16_t *graded_order(void) {
     static uint16_t order[POINTS];
     static int made;
     int count = 0;
@@ -45,44 +42,49 @@ static void make_rows(const uint16_t *columns, int n, uint64_t *rows) {
 }
 
 // Row v becomes the first `columns` entries of row s.
-static void copy_columns(uint64_t *v, const uint64_t *s, int columns) {
+void copy_columns(uint64_t *v, const uint64_t *s, int columns) {
     for (int k = 0; k < WORDS; k++) {
         int left = columns - k * 64;
         v[k] = left >= 64 ? s[k] : left <= 0 ? 0 : s[k] & (((uint64_t)1 << left) - 1);
     }
 }
 
-// The elimination of the mask's points; the kept rows are the first rows of the workspace.
-static size_t eliminate(const uint8_t *mask, int columns, uint64_t *workspace, uint32_t *additions) {
-    uint16_t pivots[POINTS];
-    size_t kept = 0;
-    uint32_t count = 0;
-    for (int a = 0; a < POINTS; a++) {
-        if (mask[a] != 1)
-            continue;
-        uint64_t *v = workspace + kept * WORDS;
-        copy_columns(v, workspace + (POINTS + a) * WORDS, columns);
-        for (size_t j = 0; j < kept; j++) {
-            int c = pivots[j];
-            if (v[c / 64] >> (c % 64) & 1) {
-                const uint64_t *row = workspace + j * WORDS;
-                for (int k = 0; k < WORDS; k++)
-                    v[k] ^= row[k];
-                count++;
-            }
+// Keeps the reduced row v, which stands after the kept rows, if it is not zero; whether it is kept.
+int keep(struct basis *basis, const uint64_t *v) {
+    for (int k = 0; k < WORDS; k++)
+        if (v[k]) {
+            basis->pivots[basis->kept++] = k * 64 + __builtin_ctzll(v[k]);
+            return 1;
         }
-        for (int k = 0; k < WORDS; k++)
-            if (v[k]) {
-                pivots[kept++] = k * 64 + __builtin_ctzll(v[k]);
-                break;
-            }
-    }
-    *additions = count;
-    return kept;
+    return 0;
+}
+
+// Takes the row of the point a: it is reduced by the kept rows, and kept if it is not zero; whether it is kept.
+int take(struct basis *basis, int a, int columns, uint64_t *workspace) {
+    size_t kept = basis->kept;
+    uint64_t *v = workspace + kept * WORDS;
+    uint32_t count = 0;
+    copy_columns(v, workspace + (POINTS + a) * WORDS, columns);
+    for (size_t j = 0; j < kept; j++)
+        if (has(v, basis->pivots[j])) {
+            add(v, workspace + j * WORDS);
+            count++;
+        }
+    basis->additions += count;
+    return keep(basis, v);
+}
+
+// The elimination of the mask's points.
+void eliminate(struct basis *basis, const uint8_t *mask, int columns, uint64_t *workspace) {
+    basis->kept = 0;
+    basis->additions = 0;
+    for (int a = 0; a < POINTS; a++)
+        if (mask[a] == 1)
+            take(basis, a, columns, workspace);
 }
 
 // The rows of all points of n taps at degree n, in the second half of the workspace.
-static void prepare(size_t n, uint64_t *workspace) {
+void prepare(size_t n, uint64_t *workspace) {
     const uint16_t *order = graded_order();
     uint16_t listed[POINTS];
     int count = 0;
@@ -94,36 +96,30 @@ static void prepare(size_t n, uint64_t *workspace) {
 }
 
 // The number of columns of n taps at degree d.
-static int column_count(size_t n, size_t d) {
+int column_count(size_t n, size_t d) {
     int count = 0;
     for (int u = 0; u < 1 << n; u++)
         count += (size_t)__builtin_popcount(u) <= d;
     return count;
 }
 
+// The mask of the points of the set where the table is the side.
+void part_mask(uint8_t *part, const uint8_t *set, const uint8_t *table, int side) {
+    for (int a = 0; a < POINTS; a++)
+        part[a] = set[a] == 1 && table[a] == side;
+}
+
 // Every number of the workspace becomes zero.
-static void clear(uint64_t *workspace) {
+void clear(uint64_t *workspace) {
     memset(workspace, 0, 2 * POINTS * WORDS * sizeof *workspace);
 }
 
 // The rank of the mask's points of n taps at degree d; the workspace is zero at exit.
 size_t c_rank(const uint8_t *mask, size_t n, size_t d, uint64_t *workspace, uint32_t *additions) {
+    struct basis basis;
     prepare(n, workspace);
-    size_t rank = eliminate(mask, column_count(n, d), workspace, additions);
+    eliminate(&basis, mask, column_count(n, d), workspace);
     clear(workspace);
-    return rank;
-}
-
-// The additions of the eliminations of three masks of n taps at each degree; the workspace is zero at exit.
-uint32_t c_eliminations(const uint8_t *set, const uint8_t *one, const uint8_t *zero, size_t n, uint64_t *workspace) {
-    const uint8_t *masks[3] = {set, one, zero};
-    uint32_t total = 0, additions;
-    prepare(n, workspace);
-    for (size_t d = 0; d <= n; d++)
-        for (int i = 0; i < 3; i++) {
-            eliminate(masks[i], column_count(n, d), workspace, &additions);
-            total += additions;
-        }
-    clear(workspace);
-    return total;
+    *additions = basis.additions;
+    return basis.kept;
 }

@@ -1,9 +1,9 @@
 // The elimination of the proved kernel in Rust: packed rows of eight words, made once; kept rows with stored pivots.
 use independent::rank::Ranking;
 
-const POINTS: usize = 512;
+pub const POINTS: usize = 512;
 
-type Row = [u64; 8];
+pub type Row = [u64; 8];
 
 const ORDER: [u16; POINTS] = graded_order();
 
@@ -23,6 +23,16 @@ const fn graded_order() -> [u16; POINTS] {
         w += 1;
     }
     order
+}
+
+// The exponents of n taps in graded order.
+pub fn exponents(n: usize) -> impl Iterator<Item = u16> {
+    ORDER.into_iter().filter(move |u| *u >> n == 0)
+}
+
+// The number of columns of n taps at degree d.
+pub fn column_count(n: usize, d: usize) -> usize {
+    (0..1usize << n).filter(|u| u.count_ones() as usize <= d).count()
 }
 
 // The row of the point a at the given columns.
@@ -51,58 +61,89 @@ fn make_rows(columns: &[u16; POINTS], n: usize, rows: &mut [Row]) {
 }
 
 // The first `columns` entries of the row.
-fn first_columns(row: &Row, columns: usize) -> Row {
+pub fn first_columns(row: &Row, columns: usize) -> Row {
     std::array::from_fn(|k| match columns.saturating_sub(k * 64) {
         left @ 0..64 => row[k] & ((1 << left) - 1),
         _ => row[k],
     })
 }
 
-// The first column with a one.
-fn pivot(row: &Row) -> Option<usize> {
-    let k = row.iter().position(|word| *word != 0)?;
-    Some(k * 64 + row[k].trailing_zeros() as usize)
+// Whether the row has a one in the column c.
+pub fn has(row: &Row, c: u16) -> bool {
+    row[usize::from(c / 64) % 8] >> (c % 64) & 1 == 1
 }
 
-// The elimination of the mask's points, with their rows at the first `columns` columns.
-fn eliminate(mask: &[u8], columns: usize, kept: &mut [Row], rows: &[Row]) -> Ranking {
-    let mut pivots = [0u16; POINTS];
-    let (mut rank, mut additions) = (0, 0);
-    for (_, row) in mask.iter().zip(rows).filter(|(x, _)| **x == 1) {
-        let mut v = first_columns(row, columns);
-        for (kept_row, c) in kept[..rank].iter().zip(&pivots) {
-            if v[usize::from(c / 64) % 8] >> (c % 64) & 1 == 1 {
-                v.iter_mut().zip(kept_row).for_each(|(x, y)| *x ^= y);
+// Adds the row to v.
+pub fn add(v: &mut Row, row: &Row) {
+    v.iter_mut().zip(row).for_each(|(x, y)| *x ^= y);
+}
+
+// The kept rows of an elimination, the first column of each that has a one, and the additions made.
+pub struct Basis<'a> {
+    kept: &'a mut [Row],
+    pivots: [u16; POINTS],
+    pub rank: usize,
+    pub additions: u32,
+}
+
+impl<'a> Basis<'a> {
+    // No row is kept yet; the rows kept later go to these places.
+    pub fn new(places: &'a mut [Row]) -> Basis<'a> {
+        Basis { kept: places, pivots: [0; POINTS], rank: 0, additions: 0 }
+    }
+
+    // The kept rows with their pivots, in the order kept.
+    pub fn rows(&self) -> impl DoubleEndedIterator<Item = (&Row, u16)> + ExactSizeIterator {
+        self.kept[..self.rank].iter().zip(self.pivots[..self.rank].iter().copied())
+    }
+
+    // Keeps the reduced row v if it is not zero; whether it is kept.
+    pub fn keep(&mut self, v: Row) -> bool {
+        let Some(k) = v.iter().position(|word| *word != 0) else { return false };
+        (self.kept[self.rank], self.pivots[self.rank]) = (v, (k * 64) as u16 + v[k].trailing_zeros() as u16);
+        self.rank += 1;
+        true
+    }
+
+    // Takes a row: it is reduced by the kept rows, and kept if it is not zero; whether it is kept.
+    pub fn take(&mut self, mut v: Row) -> bool {
+        let mut additions = 0;
+        for (row, c) in self.rows() {
+            if has(&v, c) {
+                add(&mut v, row);
                 additions += 1;
             }
         }
-        if let Some(c) = pivot(&v) {
-            (kept[rank], pivots[rank]) = (v, c as u16);
-            rank += 1;
-        }
+        self.additions += additions;
+        self.keep(v)
     }
-    Ranking { rank, additions }
 }
 
-// The rows of all points of n taps at degree n, in the second half of the workspace.
-pub fn prepare(n: usize, workspace: &mut [u64]) {
+// The rows of the mask's points.
+pub fn rows_of<'a>(mask: &'a [u8], rows: &'a [Row]) -> impl Iterator<Item = &'a Row> {
+    mask.iter().zip(rows).filter(|(x, _)| **x == 1).map(|(_, row)| row)
+}
+
+// The elimination of the mask's points, with their rows at the first `columns` columns.
+pub fn eliminate<'a>(mask: &[u8], columns: usize, kept: &'a mut [Row], rows: &[Row]) -> Basis<'a> {
+    let mut basis = Basis::new(kept);
+    rows_of(mask, rows).for_each(|row| _ = basis.take(first_columns(row, columns)));
+    basis
+}
+
+// The places of the kept rows, and the rows of all points of n taps at degree n: the halves of the workspace.
+pub fn prepare(n: usize, workspace: &mut [u64]) -> (&mut [Row], &mut [Row]) {
     let mut listed = [u16::MAX; POINTS];
-    let exponents = ORDER.iter().filter(|u| **u >> n == 0);
-    listed.iter_mut().zip(exponents).for_each(|(place, u)| *place = *u);
-    make_rows(&listed, n, &mut workspace.as_chunks_mut().0[POINTS..]);
-}
-
-// The elimination of the mask's points of n taps at degree d, over prepared rows.
-pub fn eliminate_at(mask: &[u8], n: usize, d: usize, workspace: &mut [u64]) -> Ranking {
-    let columns = (0..1usize << n).filter(|u| u.count_ones() as usize <= d).count();
+    listed.iter_mut().zip(exponents(n)).for_each(|(place, u)| *place = u);
     let (kept, rows) = workspace.as_chunks_mut().0.split_at_mut(POINTS);
-    eliminate(mask, columns, kept, rows)
+    make_rows(&listed, n, rows);
+    (kept, rows)
 }
 
 // The rank of the mask's points of n taps at degree d; the workspace is zero at exit.
 pub fn rank(mask: &[u8], n: usize, d: usize, workspace: &mut [u64]) -> Ranking {
-    prepare(n, workspace);
-    let found = eliminate_at(mask, n, d, workspace);
+    let (kept, rows) = prepare(n, workspace);
+    let Basis { rank, additions, .. } = eliminate(mask, column_count(n, d), kept, rows);
     workspace.fill(0);
-    found
+    Ranking { rank, additions }
 }

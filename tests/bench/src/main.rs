@@ -1,35 +1,57 @@
-// Times the proved static library against the same algorithms in Rust and C at -O3, in one run.
-mod c; // c.rs: the eliminations in C
+// Times the proved static library against the same algorithms in Rust and C at -O3, and against M4RI, in one run.
+#[cfg_attr(not(has_c), path = "no_c.rs")]
+mod c; // c.rs: the contenders in C
+mod certify; // certify.rs: Certify in Rust
+mod contenders; // contenders.rs: the contenders of each operation
 mod elimination; // elimination.rs: the eliminations in Rust
+mod judge; // judge.rs: Judge in Rust
+#[cfg_attr(not(has_m4ri), path = "no_m4ri.rs")]
+mod m4ri; // m4ri.rs: the ranks by M4RI
 mod timing; // timing.rs: several contenders timed in one run
 
+use contenders::{certifies, judges, ranks};
 use independent::filter_file::Triple;
+use independent::judgement::Filter;
+use independent::normal_form::weight;
 use independent::random::Random;
-use independent::rank::Ranking;
 use independent::samples::mask_of;
 use timing::{Contender, line, race};
 
 const RUNS: usize = 120;
 
-// Rank of the mask's points of nine taps at degree d: proved, in Rust and in C.
-fn rank_contenders(mask: &[u8], d: usize) -> Vec<Contender<'_, Ranking>> {
-    let proved: Contender<Ranking> = Box::new(move |workspace| library::rank(mask, 9, d, workspace).expect("accepted"));
-    let rust: Contender<Ranking> = Box::new(move |workspace| elimination::rank(mask, 9, d, workspace));
-    [proved, rust].into_iter().chain(c::rank(mask, d)).collect()
+// The heads of the columns of times: the contenders that there are.
+fn heads(m4ri: bool) -> String {
+    let others = [("Rust", true), ("C", cfg!(has_c)), ("M4RI", m4ri && cfg!(has_m4ri))];
+    let there = others.iter().filter(|(_, there)| *there);
+    format!("{:>10}{}", "proved", there.map(|(name, _)| format!("{name:>10}  ratio")).collect::<String>())
 }
 
 // Rank at n = 9 and every degree, with the sums.
 fn bench_rank(title: &str, mask: &[u8]) {
     println!("Rank, n = 9, {title}; microseconds, least of {RUNS} runs");
-    println!(" d  rank additions    proved      Rust  ratio         C  ratio");
+    println!(" d  rank additions{}", heads(false));
     let mut sums = vec![0.0; 3];
     for d in 0..=9 {
-        let (found, times) = race(RUNS, &rank_contenders(mask, d));
+        let (found, times) = race(RUNS, &ranks(mask, d));
         sums.truncate(times.len());
         sums.iter_mut().zip(&times).for_each(|(sum, time)| *sum += time);
         println!("{d:2} {:5} {:9}{}", found.rank, found.additions, line(&times));
     }
     println!("sum              {}", line(&sums));
+}
+
+// Judge at n = 9, and Certify of both sides at the degree before the reported one.
+fn bench_judgement(title: &str, set: &[u8], table: &[u8]) {
+    let filter = Filter { n: 9, set, table };
+    let ((judgement, _), times) = race(RUNS, &judges(filter));
+    let k = judgement.degree;
+    println!("Judge and Certify, n = 9, {title}; microseconds, least of {RUNS} runs");
+    println!("                 {}", heads(true));
+    println!("Judge, degree {k}  {}", line(&times));
+    for (d, side) in k.checked_sub(1).into_iter().flat_map(|d| [(d, 1), (d, 0)]) {
+        let (_, times) = race(RUNS, &certifies(filter, side, d));
+        println!("side {side}, d = {d}    {}", line(&times));
+    }
 }
 
 // Read of the largest file: nine taps, both lists full.
@@ -46,7 +68,13 @@ fn main() {
     if !cfg!(has_c) {
         println!("no C compiler: the comparison with C is skipped");
     }
-    bench_rank("all 512 points", &mask_of(9, |_| true));
-    bench_rank("a random half", &Random(1).mask(9, 4));
+    if !cfg!(has_m4ri) {
+        println!("no M4RI (Debian's libm4ri-dev): the comparison with it is skipped");
+    }
+    let (all, half) = (mask_of(9, |_| true), Random(1).mask(9, 4));
+    bench_rank("all 512 points", &all);
+    bench_rank("a random half", &half);
+    bench_judgement("all 512 points, a random table", &all, &half);
+    bench_judgement("the 126 points of weight 4, a random table", &mask_of(9, |a| weight(a) == 4), &half);
     bench_read();
 }

@@ -1,0 +1,59 @@
+// The contenders of each operation, in this order: proved, in Rust, in C, and M4RI for the ranks of Judge.
+use crate::judge::part_mask;
+use crate::timing::Contender;
+use crate::{c, certify, elimination, judge, m4ri};
+use independent::judgement::{Filter, Judgement};
+use independent::rank::Ranking;
+
+pub type Rank = fn(&[u8], usize, usize, &mut [u64]) -> Ranking;
+pub type Judge = fn(Filter, &mut [u64], &mut [u8], &mut [u8]) -> Judgement;
+pub type Certify = fn(Filter, u8, usize, &mut [u64], &mut [u64]) -> Result<(), u8>;
+pub type RankSum = fn([&[u8; 512]; 3], usize) -> usize;
+
+// What Judge answers and leaves in the witness buffers, and what Certify answers and leaves in the certificate.
+pub type Judged = (Judgement, [[u8; 512]; 2]);
+pub type Certified = (Result<(), u8>, Vec<u64>);
+
+// Rank of the mask's points of nine taps at degree d.
+pub fn ranks(mask: &[u8], d: usize) -> Vec<Contender<'_, Ranking>> {
+    let proved: Rank = |mask, n, d, workspace| library::rank(mask, n, d, workspace).expect("accepted");
+    let boxed = |rank: Rank| -> Contender<Ranking> { Box::new(move |workspace| rank(mask, 9, d, workspace)) };
+    [Some(proved), Some(elimination::rank), c::RANK].into_iter().flatten().map(boxed).collect()
+}
+
+// Judge of the filter by one of the contenders.
+fn judged(judge: Judge, filter: Filter, workspace: &mut [u64]) -> Judged {
+    let mut witnesses = [[0; 512]; 2];
+    let [one, zero] = &mut witnesses;
+    (judge(filter, workspace, one, zero), witnesses)
+}
+
+// The ranks of Judge by M4RI: the answer wanted, once the sum of the ranks is right.
+fn ranked(rank_sum: RankSum, filter: Filter<'_>) -> Contender<'_, Judged> {
+    let wanted = judged(judge::judge, filter, &mut [0; 8192]);
+    let masks = [filter.set.try_into().expect("512 bytes"), part_mask(filter, 1), part_mask(filter, 0)];
+    let sum: usize = wanted.0.ranks.as_flattened().iter().sum();
+    Box::new(move |_| {
+        assert_eq!(rank_sum(masks.each_ref(), filter.n), sum, "the ranks by M4RI");
+        wanted.clone()
+    })
+}
+
+// Judge of the filter.
+pub fn judges(filter: Filter<'_>) -> Vec<Contender<'_, Judged>> {
+    let proved: Judge = |filter, workspace, one, zero| library::judge(filter, workspace, one, zero).expect("accepted");
+    let boxed = |judge: Judge| -> Contender<Judged> { Box::new(move |workspace| judged(judge, filter, workspace)) };
+    let same_steps = [Some(proved), Some(judge::judge), c::JUDGE].into_iter().flatten().map(boxed);
+    same_steps.chain(m4ri::RANK_SUM.map(|rank_sum| ranked(rank_sum, filter))).collect()
+}
+
+// Certify of the filter's side at degree d.
+pub fn certifies(filter: Filter<'_>, side: u8, d: usize) -> Vec<Contender<'_, Certified>> {
+    let boxed = |certify: Certify| -> Contender<Certified> {
+        Box::new(move |workspace| {
+            let mut certificate = vec![0; 4096];
+            (certify(filter, side, d, workspace, &mut certificate), certificate)
+        })
+    };
+    [Some(library::certify as Certify), Some(certify::certify), c::CERTIFY].into_iter().flatten().map(boxed).collect()
+}

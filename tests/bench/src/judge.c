@@ -1,0 +1,85 @@
+// Judge of the proved library in C, by the same steps: rows made once, three eliminations at each degree, the first
+// difference, and two witnesses by back substitution.
+#include "elimination.h"
+#include <string.h>
+
+enum { DEGREES = 10 };
+
+// Takes rows of the mask's points until one is kept; whether one is.
+static int take_new(struct basis *basis, const uint8_t *mask, int columns, uint64_t *workspace) {
+    for (int a = 0; basis->kept < POINTS && a < POINTS; a++)
+        if (mask[a] == 1 && take(basis, a, columns, workspace))
+            return 1;
+    return 0;
+}
+
+// The row that is odd with the last kept row and even with the others, with ones at their pivots only.
+static void solve_last(const struct basis *basis, const uint64_t *workspace, uint64_t *x) {
+    size_t last = basis->kept - 1;
+    memset(x, 0, WORDS * sizeof *x);
+    x[basis->pivots[last] / 64] = (uint64_t)1 << (basis->pivots[last] % 64);
+    for (size_t j = last; j-- > 0;) {
+        uint64_t common = 0;
+        for (int k = 0; k < WORDS; k++)
+            common ^= workspace[j * WORDS + k] & x[k];
+        x[basis->pivots[j] / 64] |= (uint64_t)__builtin_parityll(common) << (basis->pivots[j] % 64);
+    }
+}
+
+// The witness becomes the exponents of n taps whose columns have a one in the row.
+static void write_choice(uint8_t *witness, size_t n, const uint64_t *row) {
+    const uint16_t *order = graded_order();
+    int count = 0;
+    for (int i = 0; i < POINTS; i++)
+        if (order[i] >> n == 0)
+            witness[order[i]] = has(row, count++);
+}
+
+// The witness against a part of the set at degree d; zeros where every row of the set is a sum of rows of the part.
+static void write_witness(uint8_t *witness, const uint8_t *set, const uint8_t *part, size_t n, size_t d,
+                          uint64_t *workspace) {
+    int columns = column_count(n, d);
+    struct basis basis;
+    uint64_t row[WORDS];
+    memset(witness, 0, POINTS);
+    eliminate(&basis, part, columns, workspace);
+    if (!take_new(&basis, set, columns, workspace))
+        return;
+    solve_last(&basis, workspace, row);
+    write_choice(witness, n, row);
+}
+
+// The ranks of the three masks at each degree; the additions of all eliminations.
+static uint32_t all_ranks(size_t ranks[DEGREES][3], const uint8_t *masks[3], size_t n, uint64_t *workspace) {
+    uint32_t additions = 0;
+    memset(ranks, 0, DEGREES * sizeof *ranks);
+    for (size_t d = 0; d <= n; d++) {
+        int columns = column_count(n, d);
+        for (int i = 0; i < 3; i++) {
+            struct basis basis;
+            eliminate(&basis, masks[i], columns, workspace);
+            ranks[d][i] = basis.kept;
+            additions += basis.additions;
+        }
+    }
+    return additions;
+}
+
+// Judge of a filter of n taps; the workspace is zero at exit.
+void c_judge(const uint8_t *set, const uint8_t *table, size_t n, uint64_t *workspace, uint8_t *one, uint8_t *zero,
+             size_t ranks[DEGREES][3], size_t *degree, uint8_t *side, uint32_t *additions) {
+    uint8_t part_one[POINTS], part_zero[POINTS];
+    const uint8_t *masks[3] = {set, part_one, part_zero};
+    size_t k = 0;
+    part_mask(part_one, set, table, 1);
+    part_mask(part_zero, set, table, 0);
+    prepare(n, workspace);
+    *additions = all_ranks(ranks, masks, n, workspace);
+    while (ranks[k][0] == ranks[k][1] && ranks[k][0] == ranks[k][2])
+        k++;
+    write_witness(one, set, part_one, n, k, workspace);
+    write_witness(zero, set, part_zero, n, k, workspace);
+    clear(workspace);
+    *degree = k;
+    *side = ranks[k][1] != ranks[k][0];
+}

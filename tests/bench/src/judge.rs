@@ -1,0 +1,54 @@
+// Judge of the proved library in Rust, by the same steps: rows made once, three eliminations at each degree, the first
+// difference, and two witnesses by back substitution.
+use crate::elimination::{Basis, Row, column_count, eliminate, exponents, first_columns, has, prepare, rows_of};
+use independent::judgement::{Filter, Judgement};
+
+// The mask of the points of the set where the table is the side.
+pub fn part_mask(filter: Filter, side: u8) -> [u8; 512] {
+    std::array::from_fn(|a| u8::from(filter.set[a] == 1 && filter.table[a] == side))
+}
+
+// The row that is odd with the last kept row and even with the others, with ones at their pivots only.
+fn solve_last(basis: &Basis) -> Row {
+    let (mut x, mut wanted) = ([0; 8], true);
+    for (row, c) in basis.rows().rev() {
+        let common = row.iter().zip(&x).fold(0, |sum, (y, z)| sum ^ (y & z));
+        let odd = wanted ^ (common.count_ones() % 2 == 1);
+        x[usize::from(c / 64)] |= u64::from(odd) << (c % 64);
+        wanted = false;
+    }
+    x
+}
+
+// The witness against a part of the set at degree d; zeros where every row of the set is a sum of rows of the part.
+fn write_witness(witness: &mut [u8], [set, part]: [&[u8]; 2], n: usize, d: usize, kept: &mut [Row], rows: &[Row]) {
+    let columns = column_count(n, d);
+    let mut basis = eliminate(part, columns, kept, rows);
+    witness.fill(0);
+    if rows_of(set, rows).any(|row| basis.take(first_columns(row, columns))) {
+        let row = solve_last(&basis);
+        exponents(n).zip(0..).for_each(|(u, c)| witness[usize::from(u)] = has(&row, c).into());
+    }
+}
+
+// Judge of a filter; the workspace is zero at exit.
+pub fn judge(filter: Filter, workspace: &mut [u64], one: &mut [u8], zero: &mut [u8]) -> Judgement {
+    let (n, set) = (filter.n, filter.set);
+    let (part_one, part_zero) = (part_mask(filter, 1), part_mask(filter, 0));
+    let (kept, rows) = prepare(n, workspace);
+    let (mut ranks, mut additions) = ([[0; 3]; 10], 0);
+    for (d, line) in ranks.iter_mut().enumerate().take(n + 1) {
+        let columns = column_count(n, d);
+        *line = [set, &part_one, &part_zero].map(|mask| {
+            let basis = eliminate(mask, columns, kept, rows);
+            additions += basis.additions;
+            basis.rank
+        });
+    }
+    let degree = ranks.iter().position(|[all, one, zero]| all != one || all != zero).expect("at n a part differs");
+    write_witness(one, [set, &part_one], n, degree, kept, rows);
+    write_witness(zero, [set, &part_zero], n, degree, kept, rows);
+    workspace.fill(0);
+    let side = u8::from(ranks[degree][1] != ranks[degree][0]);
+    Judgement { ranks, degree, side, additions }
+}
