@@ -1,6 +1,7 @@
 // Ranks, degrees, witnesses and certificates of up to three taps, against trying every polynomial. Sets of points and
 // sets of exponents are numbers here: bit a for the point a, bit u for the exponent u.
 use independent::judgement::{Filter, Judgement, certify, judge};
+use independent::rank::Ranking;
 use independent::samples::{mask_of, pairs};
 
 // A polynomial: the exponents chosen, the points where it is 1, and its degree; 0 for the zero polynomial.
@@ -48,6 +49,37 @@ fn graded(n: usize, d: usize) -> Vec<usize> {
     weights.flat_map(|w| (0..1usize << n).filter(move |u| u.count_ones() == w)).collect()
 }
 
+// The rank of the points at degree d: so many powers of 2 are the values there of the polynomials up to that degree.
+fn rank(all: &[Polynomial], points: usize, d: usize) -> usize {
+    let mut values: Vec<usize> = all.iter().filter(|g| g.degree <= d).map(|g| g.values & points).collect();
+    values.sort();
+    values.dedup();
+    assert!(values.len().is_power_of_two());
+    values.len().ilog2() as usize
+}
+
+// The additions of the elimination of the points at degree d, by the document's words; bit i of a row for column i.
+fn additions(n: usize, points: usize, d: usize) -> u32 {
+    let (columns, mut kept, mut count) = (graded(n, d), Vec::<usize>::new(), 0);
+    for a in (0..1 << n).filter(|a| has(points, *a)) {
+        let mut row = (0..columns.len()).filter(|i| columns[*i] & a == columns[*i]).map(|i| 1 << i).sum();
+        for kept_row in &kept {
+            if has(row, kept_row.trailing_zeros() as usize) {
+                row ^= kept_row;
+                count += 1;
+            }
+        }
+        kept.extend(Some(row).filter(|row| *row != 0));
+    }
+    count
+}
+
+// The rank and the additions of every set of points at degree d.
+fn rankings(all: &[Polynomial], n: usize, d: usize) -> Vec<Ranking> {
+    let ranking = |points| Ranking { rank: rank(all, points, d), additions: additions(n, points, d) };
+    (0..1 << (1 << n)).map(ranking).collect()
+}
+
 // The witness by the document's words: p, the kept columns, and the only polynomial on them; 0 where there is none.
 fn witness(all: &[Polynomial], n: usize, set: usize, part: usize, k: usize) -> usize {
     let exponents = graded(n, k);
@@ -85,10 +117,22 @@ fn judged(n: usize, set: usize, table: usize) -> (Judgement, [usize; 2]) {
     (answer.expect("accepted"), [choice_of(&one), choice_of(&zero)])
 }
 
+// The ranks and additions of one set and table, from those of every set at each degree.
+fn check_ranks(judgement: &Judgement, by_degree: &[Vec<Ranking>], sets: [usize; 3]) {
+    let mut additions = 0;
+    for (d, ranks) in judgement.ranks.into_iter().enumerate() {
+        let found = by_degree.get(d).map(|all| sets.map(|points| all[points]));
+        assert_eq!(ranks, found.map_or([0; 3], |found| found.map(|ranking| ranking.rank)), "sets {sets:?}, d = {d}");
+        additions += found.map_or(0, |found| found.iter().map(|ranking| ranking.additions).sum());
+    }
+    assert_eq!(judgement.additions, additions, "sets {sets:?}");
+}
+
 // Demand 3 about ranks, degree, side and witnesses for one set and table.
-fn check_judgement(all: &[Polynomial], n: usize, set: usize, table: usize) {
+fn check_judgement(all: &[Polynomial], by_degree: &[Vec<Ranking>], n: usize, set: usize, table: usize) {
     let (judgement, witnesses) = judged(n, set, table);
     let parts = [set & table, set & !table];
+    check_ranks(&judgement, by_degree, [set, parts[0], parts[1]]);
     let least = parts.map(|part| cancelling(all, set, part).map(|g| g.degree).min());
     for (d, i) in (0..=n).flat_map(|d| [(d, 0), (d, 1)]) {
         let differs = judgement.ranks[d][i + 1] != judgement.ranks[d][0];
@@ -107,14 +151,15 @@ fn check_judgement(all: &[Polynomial], n: usize, set: usize, table: usize) {
 fn every_set_and_table_of_up_to_three_taps_judged() {
     for n in [1, 2, 3] {
         let (all, sets) = (polynomials(n), 1 << (1 << n));
-        (1..sets).for_each(|set| (0..sets).for_each(|table| check_judgement(&all, n, set, table)));
+        let by_degree: Vec<Vec<Ranking>> = (0..=n).map(|d| rankings(&all, n, d)).collect();
+        (1..sets).for_each(|set| (0..sets).for_each(|table| check_judgement(&all, &by_degree, n, set, table)));
     }
 }
 
 // The certificate of one set, table, side and degree: refused where a polynomial cancels, else the only sums of kept
 // points of the part.
-fn check_certificate(all: &[Polynomial], n: usize, [set, part]: [usize; 2], side: u8, d: usize) {
-    let table = if side == 1 { part } else { set & !part };
+fn check_certificate(all: &[Polynomial], n: usize, [set, table]: [usize; 2], side: u8, d: usize) {
+    let part = if side == 1 { set & table } else { set & !table };
     let (mut workspace, mut certificate) = (vec![5; 8192], vec![5; 4096]);
     let filter = Filter { n, set: &mask(n, set), table: &mask(n, table) };
     let answer = certify(filter, side, d, &mut workspace, &mut certificate);
@@ -135,16 +180,22 @@ fn check_certificate(all: &[Polynomial], n: usize, [set, part]: [usize; 2], side
     }
 }
 
-#[test]
-fn certificates_of_up_to_three_taps_at_every_side_and_degree() {
+// The certificates of a side of every set and table of up to three taps at every degree.
+fn check_certificates(side: u8) {
     for n in [1, 2, 3] {
-        let (all, sets): (_, Vec<usize>) = (polynomials(n), (0..1 << (1 << n)).collect());
-        let inside = |(set, part): &(usize, usize)| *set != 0 && part & !set == 0;
-        let degrees: Vec<usize> = (0..=n).collect();
-        for (set, part) in pairs(&sets, &sets).into_iter().filter(inside) {
-            for (d, side) in pairs(&degrees, &[1, 0]) {
-                check_certificate(&all, n, [set, part], side, d);
-            }
+        let (all, tables): (_, Vec<usize>) = (polynomials(n), (0..1 << (1 << n)).collect());
+        for (set, table) in pairs(&tables[1..], &tables) {
+            (0..=n).for_each(|d| check_certificate(&all, n, [set, table], side, d));
         }
     }
+}
+
+#[test]
+fn certificates_of_side_1_of_up_to_three_taps_at_every_degree() {
+    check_certificates(1);
+}
+
+#[test]
+fn certificates_of_side_0_of_up_to_three_taps_at_every_degree() {
+    check_certificates(0);
 }

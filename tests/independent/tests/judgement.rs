@@ -1,6 +1,11 @@
-// Judge, Certify and Hand over of the independent implementation, against the document's cases and every polynomial.
+// Judge, Certify and Hand over of the independent implementation, against the document's cases, evaluation and sums of
+// rows.
 use independent::judgement::{Filter, Judgement, certify, hand_over, judge};
-use independent::samples::mask_of;
+use independent::normal_form::{convert, degree};
+use independent::random::Random;
+use independent::rank::{points_of, row};
+use independent::samples::{mask_of, pairs};
+use independent::span::Bits;
 
 // What Judge answered, and the exponents of the witnesses of side 1 and side 0.
 fn judged(n: usize, set: &[u8], table: &[u8]) -> (Judgement, [Vec<usize>; 2]) {
@@ -45,6 +50,54 @@ fn starred_case_10() {
     let (judgement, witnesses) = judged(2, &listed(2, &[1, 2]), &listed(2, &[1]));
     assert_eq!([0, 1, 2].map(|d| judgement.ranks[d][0]), [1, 2, 2]);
     assert_eq!((judgement.degree, &witnesses[0][..]), (1, &[0, 1][..]));
+}
+
+// The exponents are a polynomial of degree k that is zero on the part and not on all of the set.
+fn check_witness(n: usize, exponents: &[usize], k: usize, [set, part]: [&[usize]; 2]) {
+    let mut polynomial = listed(n, exponents);
+    assert_eq!(degree(&polynomial, n), Ok(k as u32));
+    assert_eq!(convert(&mut polynomial, n), Ok(()));
+    assert!(part.iter().all(|a| polynomial[*a] == 0) && set.iter().any(|a| polynomial[*a] == 1));
+}
+
+// The certificate of the side at degree d names points of the part whose rows sum to the row of each other point of the
+// set, and nothing else.
+fn check_certificate(filter: Filter, side: u8, d: usize, [set, part]: [&[usize]; 2]) {
+    let mut certificate = vec![9; 4096];
+    assert_eq!(certify(filter, side, d, &mut vec![9; 8192], &mut certificate), Ok(()));
+    for (a, words) in certificate.chunks(8).enumerate() {
+        let named: Vec<usize> = (0..512).filter(|q| words[q / 64] >> (q % 64) & 1 == 1).collect();
+        let sum = named.iter().fold(Bits::default(), |sum, q| sum.plus(row(d, *q)));
+        let outside = set.contains(&a) && !part.contains(&a);
+        assert!(named.iter().all(|q| part.contains(q)) && (outside || named.is_empty()));
+        assert!(!outside || sum == row(d, a), "{filter:?}, side {side}, point {a}, d = {d}");
+    }
+}
+
+// The witnesses of the filter, and its certificates at the degree before the reported one.
+fn check_judgement(n: usize, set: &[u8], table: &[u8]) {
+    let (judgement, witnesses) = judged(n, set, table);
+    let (k, points) = (judgement.degree, points_of(set));
+    for (side, witness) in [1, 0].into_iter().zip(&witnesses) {
+        let part: Vec<usize> = points.iter().copied().filter(|a| table[*a] == side).collect();
+        if judgement.ranks[k][2 - usize::from(side)] == judgement.ranks[k][0] {
+            assert!(witness.is_empty());
+        } else {
+            check_witness(n, witness, k, [&points, &part]);
+        }
+        if k > 0 {
+            check_certificate(Filter { n, set, table }, side, k - 1, [&points, &part]);
+        }
+    }
+}
+
+#[test]
+fn witnesses_and_certificates_of_every_kind_of_filter_of_four_to_nine_taps() {
+    let mut random = Random(1);
+    for (n, (for_set, for_table)) in pairs(&[4, 5, 6, 7, 8, 9], &pairs(&[0, 1, 2, 3, 4, 5], &[0, 1, 2, 3, 4])) {
+        let (set, table) = (random.set(n, for_set), random.table(n, for_table));
+        check_judgement(n, &set, &table);
+    }
 }
 
 #[test]
