@@ -162,7 +162,7 @@ fn put(bytes: &mut [u8], place: usize, value: u8) {
     bytes.iter_mut().skip(place).take(1).for_each(|byte| *byte = value);
 }
 
-// What makes a call wrong; the first does not.
+// A change to a call, which makes it wrong; the first changes nothing, and a table of zeros is wrong for side 1 only.
 type Fault = fn(&mut Call);
 
 // What both operations check: lengths, n, the bytes of the set and of the table, and that the set has a point.
