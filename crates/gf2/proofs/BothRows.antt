@@ -1,5 +1,4 @@
 -- The rows of the workspace while a row is reduced and a second row follows it.
---   both-length   there are as many rows
 --   both-none     by no rows: nothing changes
 --   both-left     what is left of the row
 --   both-sum      what the second row is
@@ -14,7 +13,7 @@ use mathlib.Core.List.{List, [], _∷_, _++_, map, map-append}
 use Prim.Native.Nat.{ℕ, _+_, _≤_, _<_}
 use native.Mathlib.Numerals.{add-one}
 use native.Mathlib.Omega.{arith}
-use lib.ListN.{length, getD, set, take, length-set, length-map}
+use lib.ListN.{length, getD, set, take, length-map}
 use lib.Seq.{lt-length-set, take-suc, set-set, set-comm, set-getD, getD-set-same, getD-set-other, take-set-le, length-take-le}
 use Rattle.gf2.specs.Vector.{Row, entry, add, total, chosen}
 use Rattle.gf2.specs.Elimination.{Reduced, pivot, addIf, reduce}
@@ -45,11 +44,6 @@ module _ (row s : ℕ) (ps : List ℕ) (t : List Row) where
   -- what is then added to the second row
   abbrev added : ℕ → Row
   added k = total (chosen (reduce (take k t) (rowOf t row) .added) (map (rowOf t) (take k ps)))
-
-  -- there are as many rows
-  pub both-length : (k : ℕ) → length (reducedBoth k row s ps t) ≡ length t
-  unfolding reducedBoth
-  both-length k = length-set (set t row (left k)) s (add (rowOf t s) (added k)) ∙ length-set t row (left k)
 
   -- by no rows: nothing changes
   pub both-none : reducedBoth 0 row s ps t ≡ t

@@ -1,7 +1,6 @@
 -- The row of a point is reduced behind the kept rows, and its place follows.
 --   start-kept          the kept rows stay while the row is put behind them and its place is written
 --   start-unit          a place that is cleared and then given a one
---   left-of             what the row is reduced to, and which rows are added to it
 --   followed-left       what is left of the row stands behind the kept rows
 --   followed-sum        what stands in the point's place
 --   followed-other      all other rows stay
@@ -47,7 +46,7 @@ start-unit t a t₁ t₂ long point e f =
 
 module _ (c k a : ℕ) (x : Row) (ps : List ℕ) (t : List Row) (long : length t ≡ 1024) (small : k < 512) (point : a < 512) where
   -- what the row is reduced to, and which rows are added to it
-  abbrev pub left-of : Reduced
+  abbrev left-of : Reduced
   left-of = reduce (take k t) (stored t c a)
 
   -- the rows before

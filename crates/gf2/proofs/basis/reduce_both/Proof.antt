@@ -51,7 +51,7 @@ add-row-requires-2 c κs =
     let a = c .before .before .before .before in
     let l = a .before .before .before .before .before .before .before in
     let s = l .before .before .before .before in
-    (a .add-row .kept .0 ∙ l .loop .inv .1, s .pre .6, s .pre .8 (l .loop .i) (omega arith) .1)
+    (a .add-row .kept .0 ∙ l .loop .inv .1, omega arith, s .pre .8 (l .loop .i) (omega arith) .1)
 
 loop-again : tie.Need-loop-again Inv-loop μ-loop
 unfolding addIf
