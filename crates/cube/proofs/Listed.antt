@@ -11,6 +11,8 @@
 --   length-filter     no more are kept than there are
 --   filter-fewer      fewer are kept where a member does not pass
 --   filter-snoc       what a test keeps of a list with one number more at its end
+--   filter-take-yes   what a test keeps of the first numbers of a list, where the next one passes
+--   filter-take-no    and where it does not
 --   Distinct xs       no number stands twice in the list
 --   distinct-places   a list whose places hold different numbers is distinct
 --   distinct-filter   what a test keeps of a distinct list is distinct
@@ -19,11 +21,13 @@
 use mathlib.Core.Path.{_≡_, refl, sym, ap, _∙_}
 use mathlib.Core.Logic.{_↔_, _⊎_, inl, inr}
 use mathlib.Core.Bool.{Bool, true, false, _&&_, _||_, or-true, false≢true}
-use mathlib.Core.List.{List, [], _∷_, _++_, List·Memᴰ, List·Memᴰ·head, List·Memᴰ·tail, List·Memᴰ·not-nil, List·Memᴰ·cases-cons}
-use Prim.Native.Nat.{ℕ, zero, suc, _≤_, _<_}
+use mathlib.Core.List.{List, [], _∷_, _++_, append-nil, List·Memᴰ, List·Memᴰ·head, List·Memᴰ·tail, List·Memᴰ·not-nil, List·Memᴰ·cases-cons}
+use Prim.Native.Nat.{ℕ, zero, suc, _+_, _≤_, _<_}
+use native.Mathlib.Numerals.{add-one}
 use native.Mathlib.Omega.{arith}
 use lib.Dec.{eqb}
-use lib.ListN.{length, getD}
+use lib.ListN.{length, getD, take}
+use lib.Seq.{take-suc}
 use borrow.Author.Tests.{eqb-true, eq-eqb}
 use Rattle.cube.specs.Numbers.{consIf, filter, lists, Inside}
 use Rattle.cube.proofs.Count.{countBelow, count-none, count-more, count-full}
@@ -153,6 +157,21 @@ filter-snoc t (y ∷ xs) x = go (t y) (filter-snoc t xs x)
         → consIf b y (filter t (xs ++ (x ∷ []))) ≡ consIf b y (filter t xs) ++ consIf (t x) x []
     go true later = ap (λ l. y ∷ l) later
     go false later = later
+
+-- what a test keeps of the first numbers of a list, one number more
+filter-take : (t : ℕ → Bool) (xs : List ℕ) (i : ℕ) → i < length xs → filter t (take (i + 1) xs) ≡ filter t (take i xs) ++ consIf (t (getD xs i 0)) (getD xs i 0) []
+filter-take t xs i l = ap (λ k. filter t (take k xs)) (add-one i) ∙ ap (filter t) (take-suc xs i 0 l) ∙ filter-snoc t (take i xs) (getD xs i 0)
+
+-- the number passes
+pub filter-take-yes : (t : ℕ → Bool) (xs : List ℕ) (i : ℕ) → i < length xs → t (getD xs i 0) ≡ true
+    → filter t (take (i + 1) xs) ≡ filter t (take i xs) ++ (getD xs i 0 ∷ [])
+unfolding consIf
+filter-take-yes t xs i l e = filter-take t xs i l ∙ ap (λ z. filter t (take i xs) ++ consIf z (getD xs i 0) []) e
+
+-- it does not
+pub filter-take-no : (t : ℕ → Bool) (xs : List ℕ) (i : ℕ) → i < length xs → t (getD xs i 0) ≡ false → filter t (take (i + 1) xs) ≡ filter t (take i xs)
+unfolding consIf
+filter-take-no t xs i l e = filter-take t xs i l ∙ ap (λ z. filter t (take i xs) ++ consIf z (getD xs i 0) []) e ∙ append-nil (filter t (take i xs))
 
 -- no number stands twice
 abbrev pub Distinct : List ℕ → Type 0

@@ -1,7 +1,10 @@
 -- The points of masks.
 --   member-from     the numbers from one on
 --   length-from     how many they are
+--   below-snoc      the numbers below a bound, one number more
 --   filter-below    what a test keeps of the numbers below a bound, one number more
+--   filter-yes      the next number passes a test
+--   filter-no       it does not
 --   value-at        a list of values for the numbers below m holds the value of each at its place
 --   markedFrom b i  the numbers from i on that the mask b marks: what a scan has yet to pass
 --   marked-all      from 0 on they are all
@@ -19,7 +22,7 @@
 use mathlib.Core.Path.{_≡_, refl, ap, _∙_}
 use mathlib.Core.Logic.{_↔_, _⊎_, inl, inr, ⊎-elim}
 use mathlib.Core.Bool.{Bool, true, false}
-use mathlib.Core.List.{List, [], _∷_, _++_, map, List·Memᴰ, List·Memᴰ·head, List·Memᴰ·tail, List·Memᴰ·not-nil, List·Memᴰ·cases-cons}
+use mathlib.Core.List.{List, [], _∷_, _++_, map, append-nil, List·Memᴰ, List·Memᴰ·head, List·Memᴰ·tail, List·Memᴰ·not-nil, List·Memᴰ·cases-cons}
 use Prim.Native.Nat.{ℕ, zero, suc, _+_, _-_, _≤_, _<_}
 use native.Mathlib.Omega.{arith}
 use native.Mathlib.Decide.{decLt}
@@ -66,10 +69,23 @@ from-snoc u (suc k) =
     let e : suc u + k ≡ u + suc k = omega arith in
     ap (λ l. u ∷ l) (from-snoc (suc u) k ∙ ap (λ x. upFrom (suc u) k ++ (x ∷ [])) e)
 
+-- one number more
+pub below-snoc : (a : ℕ) → below (a + 1) ≡ below a ++ (a ∷ [])
+below-snoc a = ap below (add-one a) ∙ from-snoc 0 a ∙ ap (λ x. below a ++ (x ∷ [])) (zero-add a)
+
 -- what a test keeps of the numbers below a bound, one number more
 pub filter-below : (t : ℕ → Bool) (a : ℕ) → filter t (below (a + 1)) ≡ filter t (below a) ++ consIf (t a) a []
-filter-below t a =
-    ap (λ m. filter t (below m)) (add-one a) ∙ ap (filter t) (from-snoc 0 a ∙ ap (λ x. below a ++ (x ∷ [])) (zero-add a)) ∙ filter-snoc t (below a) a
+filter-below t a = ap (filter t) (below-snoc a) ∙ filter-snoc t (below a) a
+
+-- the next number passes
+pub filter-yes : (t : ℕ → Bool) (a : ℕ) → t a ≡ true → filter t (below (a + 1)) ≡ filter t (below a) ++ (a ∷ [])
+unfolding consIf
+filter-yes t a e = filter-below t a ∙ ap (λ z. filter t (below a) ++ consIf z a []) e
+
+-- the next number does not pass
+pub filter-no : (t : ℕ → Bool) (a : ℕ) → t a ≡ false → filter t (below (a + 1)) ≡ filter t (below a)
+unfolding consIf
+filter-no t a e = filter-below t a ∙ ap (λ z. filter t (below a) ++ consIf z a []) e ∙ append-nil (filter t (below a))
 
 -- a value for each of them, by place
 values-from : {B : Type 0} (f : ℕ → B) (u k i : ℕ) (d : B) → i < k → getD (map f (upFrom u k)) i d ≡ f (u + i)

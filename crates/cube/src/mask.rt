@@ -1,6 +1,7 @@
 // Sets, tables and coefficients as they are lent: byte a is 0 or 1 for a below N, and 0 from N on.
 ghost use mathlib.Core.Path.{_≡_};
 ghost use Prim.Native.Nat.{_≤_};
+ghost use lib.ListN.{length};
 ghost use Rattle.cube.specs.Numbers.{isEmpty};
 ghost use Rattle.cube.specs.Mask.{allowed as allowedOf, wellFormed, marked};
 use crate::size;
@@ -42,4 +43,19 @@ pub fn is_empty(mask: &[u8]) -> bool
         i += 1;
     }
     true
+}
+
+// How many numbers the mask marks.
+pub fn count(mask: &[u8]) -> usize
+    ensures { λ r. ⌜ (r ≡ length (marked (now (mask .entry)))) × (r ≤ length (now (mask .entry))) ⌝ }
+{
+    let mut number: usize = 0;
+    let mut i: usize = 0;
+    while i < mask.len() {
+        if mask[i] == 1 {
+            number += 1;
+        }
+        i += 1;
+    }
+    number
 }
