@@ -1,0 +1,90 @@
+-- The filter that Read finds in a file.
+--   Filter o n s f   the outcome o of Read accepts n, and leaves the set s and the table f
+--   filter-judged    Judge accepts it
+--   filter-sheet     its sheet is that of the file
+--   read-filter      what an acceptance by Read shows
+--   read-refused     what a refusal shows
+--   refused-sheet    the sheet of a file that is refused
+use mathlib.Core.Path.{_≡_, refl, sym, ap, _∙_}
+use mathlib.Core.List.{List, [], _∷_}
+use Prim.Native.Nat.{ℕ, suc, _<_}
+use native.Mathlib.Omega.{arith}
+use lib.ListN.{length, getD}
+use Rattle.refusal.specs.Refusal.{numberOf}
+use Rattle.refusal.specs.Outcome.{Outcome, refused, accepted, leftBy}
+use Rattle.refusal.specs.declared.Refusal.{Refusal}
+use Rattle.cube.specs.Numbers.{lists}
+use Rattle.cube.specs.Mask.{mask}
+use Rattle.cube.specs.BuiltIn.{graded}
+use Rattle.filter_file.specs.declared.read.Reading.{Reading}
+use Rattle.filter_file.specs.declared.read.Reading.the-variants.{Read, Refused}
+use Rattle.filter_file.specs.File.{Contents, Bytes}
+use Rattle.filter_file.specs.Read.{readOutcome, nOf, outcomeOf, Reads}
+use Rattle.immunity.specs.Judgement.{judged}
+use Rattle.immunity.specs.Demands.{JudgeAccepts}
+use Rattle.immunity.proofs.Passed.{judge-passed}
+use Rattle.immunity.proofs.Demand1.{demand1}
+use Rattle.sheet_text.specs.Sheet.{refusedLine, filterSheet, sheetOf, sheet}
+
+-- a list of bytes
+bytes-at : (xs : List ℕ) → ((i : ℕ) → i < length xs → getD xs i 0 < 256) → Bytes xs
+bytes-at [] h = tt
+bytes-at (x ∷ xs) h = (h 0 (omega arith), bytes-at xs (λ i l. h (suc i) (omega arith)))
+
+-- what Read accepts, Judge accepts
+read-judge : (file : List ℕ) (c : Contents) → ((i : ℕ) → i < length file → getD file i 0 < 256) → readOutcome 512 512 file ≡ accepted c
+    → let s : List ℕ = mask (lists (c .set)) in let f : List ℕ = mask (lists (c .table)) in JudgeAccepts (c .n) s f (judged graded (c .n) s f)
+read-judge file c b e =
+    let s : List ℕ = mask (lists (c .set)) in
+    let f : List ℕ = mask (lists (c .table)) in
+    let (j, a) = demand1 .read-judged file c (bytes-at file b) e in
+    rw (judge-passed (c .n) s f j a .1) a
+
+-- the outcome of Read accepts n, and leaves the set s and the table f
+pub record Filter (o : Outcome Contents) (n : ℕ) (s f : List ℕ) : Type 0 where
+  pub contents : Contents
+  pub is : o ≡ accepted contents
+  pub n-is : n ≡ contents .n
+  pub set-is : s ≡ mask (lists (contents .set))
+  pub table-is : f ≡ mask (lists (contents .table))
+
+-- Judge accepts it
+pub filter-judged : (file : List ℕ) (n : ℕ) (s f : List ℕ) → Filter (readOutcome 512 512 file) n s f → ((i : ℕ) → i < length file → getD file i 0 < 256)
+    → JudgeAccepts n s f (judged graded n s f)
+filter-judged file n s f x b = rw (x .n-is, x .set-is, x .table-is) (read-judge file (x .contents) b (x .is))
+
+-- its sheet is that of the file
+pub filter-sheet : (file : List ℕ) (n : ℕ) (s f : List ℕ) → Filter (readOutcome 512 512 file) n s f → filterSheet n s f ≡ sheet file
+unfolding sheet
+filter-sheet file n s f x = rw (x .n-is, x .set-is, x .table-is) (sym (ap sheetOf (x .is)))
+
+-- what an acceptance by Read shows
+pub read-filter : (o : Outcome Contents) (r : Reading) (s₀ s f₀ f : List ℕ) → Reads o r s₀ s f₀ f → (n : ℕ) → r ≡ Read n → Filter o n s f
+read-filter o r s₀ s f₀ f h n e = go o refl
+  where
+    go : (x : Outcome Contents) → o ≡ x → Filter o n s f
+    go (refused k) q =
+        let z : _≡_ {A = ℕ} 0 1 = ap (λ y. leftBy y 0 (λ m. 1)) (sym (ap nOf q) ∙ sym (h .answer) ∙ ap outcomeOf e) in
+        absurd (omega arith)
+    go (accepted c) q = record {
+      contents = c;
+      is = q;
+      n-is = ap (λ y. leftBy y 0 (λ m. m)) (ap outcomeOf (sym e) ∙ h .answer ∙ ap nOf q);
+      set-is = h .set ∙ ap (λ y. leftBy y s₀ (λ c. mask (lists (c .set)))) q;
+      table-is = h .table ∙ ap (λ y. leftBy y f₀ (λ c. mask (lists (c .table)))) q;
+    }
+
+-- what a refusal shows
+pub read-refused : (o : Outcome Contents) (r : Reading) (s₀ s f₀ f : List ℕ) → Reads o r s₀ s f₀ f → (x : Refusal) → r ≡ Refused x → o ≡ refused (numberOf x)
+read-refused o r s₀ s f₀ f h x e = go o refl
+  where
+    go : (y : Outcome Contents) → o ≡ y → o ≡ refused (numberOf x)
+    go (refused k) q = q ∙ sym (cc (ap outcomeOf (sym e) ∙ h .answer ∙ ap nOf q))
+    go (accepted c) q =
+        let z : _≡_ {A = ℕ} 0 1 = ap (λ y. leftBy y 0 (λ m. 1)) (ap outcomeOf (sym e) ∙ h .answer ∙ ap nOf q) in
+        absurd (omega arith)
+
+-- the sheet of a file that is refused
+pub refused-sheet : (file : List ℕ) (m k : ℕ) → readOutcome 512 512 file ≡ refused m → k ≡ m → refusedLine k ≡ sheet file
+unfolding sheet
+refused-sheet file m k e q = ap refusedLine q ∙ sym (ap sheetOf e)

@@ -1,0 +1,117 @@
+use borrow.Author.Needs.{needs}
+use mathlib.Core.Path.{_≡_, sym, ap, _∙_, subst}
+use mathlib.Core.Option.{some}
+use Prim.Native.Nat.{ℕ, _≤_}
+use native.Mathlib.Omega.{arith}
+use lib.ListN.{length, length-replicate}
+use Rattle.cube.specs.Mask.{points}
+use Rattle.cube.specs.BuiltIn.{graded}
+use Rattle.cube.proofs.Taps.{taps-range}
+use Rattle.immunity.specs.Judgement.{Judgement, judged}
+use Rattle.immunity.proofs.Passed.{Passed, judge-passed}
+use Rattle.sheet_text.specs.Text.{Appends}
+use Rattle.sheet_text.specs.Sheet.{firstLine, judgementSheet}
+use Rattle.sheet_text.proofs.Appending.{appends-then, appends-same}
+use Rattle.sheet_text.proofs.Accepted.{judge-found, judge-refuses, sums-accepted}
+use Rattle.sheet_text.proofs.sheet.filter_sheet.Statement.{statement}
+use Rattle.sheet_text.proofs.sheet.filter_sheet.Tie as tie
+
+-- what Judge has checked
+passed : (c : tie.Start) → Passed (c .args .n) (c .args .set .now) (c .args .table .now)
+passed c = judge-passed (c .args .n) (c .args .set .now) (c .args .table .now) (judged graded (c .args .n) (c .args .set .now) (c .args .table .now)) (c .pre .1) .0
+
+-- the number of taps
+small : (c : tie.Start) → c .args .n ≤ 9
+small c = taps-range (c .args .n) .0 (passed c .tapped) .1
+
+-- what Judge found is the judgement
+judgement : (c : tie.After-finding2) → let j = c .before .before .before .before .before .before in let s = j .before .before .before .before .before .before .before in let v = c .finding2 .given .0 in
+    record { ranks = j .judge .result .ranks; degree = some (v .0); side = v .1 .0; additions = v .1 .1 .0; one = j .judge .last .1 .1 .1 .1 .0; zero = j .judge .last .1 .1 .1 .1 .1 .0 }
+    ≡ judged graded (s .args .n) (s .args .set .now) (s .args .table .now)
+judgement c =
+    let j = c .before .before .before .before .before .before in
+    let s = j .before .before .before .before .before .before .before in
+    judge-found (s .args .n) (s .args .set .now) (s .args .table .now) (s .pre .1) _ _ _ _ _ _ (j .judge .result) (j .judge .ensures)
+    (length-replicate {A = ℕ} 8192 0) (length-replicate {A = ℕ} 512 0) (length-replicate {A = ℕ} 512 0) _ _ _ (c .finding2 .given .1)
+
+first-line-requires : tie.Need-first-line-requires
+first-line-requires c κs =
+    let s = c .before .before .before .before .before .before .before .before .before .before .before .before .before .before .before .before in
+    (omega (arith, s .pre .0), small s)
+
+rank-lines-requires : tie.Need-rank-lines-requires
+rank-lines-requires c κs =
+    let f = c .before .before .before in
+    let s = f .before .before .before .before .before .before .before .before .before .before .before .before .before .before .before .before .before in
+    (omega (arith, f .first-line .ensures .1, f .first-line .ensures .0 .long, s .pre .0), small s)
+
+sum-sections-requires : tie.Need-sum-sections-requires
+sum-sections-requires c κs =
+    let d = c .before .before .before in
+    let r = d .before .before .before .before .before .before in
+    let f = r .before .before .before .before in
+    let g = f .before .before .before .before in
+    let s = g .before .before .before .before .before .before .before .before .before .before .before .before .before in (
+      omega (arith, d .report-line .ensures .1, d .report-line .ensures .0 .long, r .rank-lines .ensures .1, r .rank-lines .ensures .0 .long, f .first-line .ensures .1, f .first-line .ensures .0 .long, s .pre .0),
+      passed s .set-long,
+      passed s .table-long,
+      sums-accepted (s .args .n) (s .args .set .now) (s .args .table .now) (s .pre .1) _ (sym (ap (λ (j : Judgement). j .degree) (judgement g))),
+    )
+
+additions-line-requires : tie.Need-additions-line-requires
+additions-line-requires c κs =
+    let u = c .before .before .before in
+    let d = u .before .before .before .before in
+    let r = d .before .before .before .before .before .before in
+    let f = r .before .before .before .before in
+    let s = f .before .before .before .before .before .before .before .before .before .before .before .before .before .before .before .before .before in
+    omega (arith, u .sum-sections .ensures .1, u .sum-sections .ensures .0 .long, d .report-line .ensures .1, d .report-line .ensures .0 .long, r .rank-lines .ensures .1, r .rank-lines .ensures .0 .long, f .first-line .ensures .1, f .first-line .ensures .0 .long, s .pre .0)
+
+returns : tie.Need-returns
+returns c =
+    let g = c .before .before .before .before .before .before in
+    let j = g .before .before .before .before .before .before in
+    let s = j .before .before .before .before .before .before .before in
+    absurd (judge-refuses (s .args .n) (s .args .set .now) (s .args .table .now) (s .pre .1) _ _ _ _ _ _ (j .judge .result) (j .judge .ensures)
+    (length-replicate {A = ℕ} 8192 0) (length-replicate {A = ℕ} 512 0) (length-replicate {A = ℕ} 512 0) _ (g .finding .given .1))
+
+returns-2 : tie.Need-returns-2
+unfolding judgementSheet
+returns-2 c =
+    let z = c .before .before in
+    let u = z .before .before .before .before in
+    let d = u .before .before .before .before in
+    let r = d .before .before .before .before .before .before in
+    let f = r .before .before .before .before in
+    let g = f .before .before .before .before in
+    let s = g .before .before .before .before .before .before .before .before .before .before .before .before .before in
+    let first : Appends (firstLine (s .args .n) (length (points (s .args .set .now)))) (s .args .text .now) (f .first-line .last .0) 0 (f .first-line .result) =
+    appends-same (ap (firstLine (s .args .n)) (f .before .count .ensures .0)) (f .first-line .ensures .0) in
+    let report = appends-then (d .report-line .ensures .0) (u .sum-sections .ensures .0) in
+    appends-same (ap (judgementSheet (s .args .n) (s .args .set .now) (s .args .table .now)) (judgement g))
+    (appends-then (appends-then (appends-then first (r .rank-lines .ensures .0)) report) (z .additions-line .ensures .0))
+
+pub filter-sheet-spec : {M : Type 1} → statement M
+filter-sheet-spec =
+    tie.close
+    (tie.spec
+    (λ c. search needs)
+    (λ c. search needs)
+    (λ c. search needs)
+    (λ c κs. search needs)
+    (λ c. search needs)
+    (λ c κs. search needs)
+    (λ c κs. search needs)
+    (λ c. search needs)
+    (λ c κs. search needs)
+    first-line-requires
+    rank-lines-requires
+    (λ c. search needs)
+    (λ c. search needs)
+    (λ c κs. search needs)
+    sum-sections-requires
+    additions-line-requires
+    (λ c. search needs)
+    returns
+    (λ c. search needs)
+    returns-2)

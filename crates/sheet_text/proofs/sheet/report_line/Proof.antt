@@ -1,0 +1,36 @@
+use borrow.Author.Needs.{needs}
+use mathlib.Core.Path.{sym, subst}
+use Prim.Native.Nat.{_+_, _≤_}
+use borrow.Author.Tests.{eq-eqb, ne-eqb}
+use Rattle.immunity.specs.HandOver.{oneIf}
+use Rattle.sheet_text.specs.Text.{Appends}
+use Rattle.sheet_text.specs.Sheet.{degreeLine}
+use Rattle.sheet_text.proofs.sheet.report_line.Statement.{statement}
+use Rattle.sheet_text.proofs.sheet.report_line.Tie as tie
+
+returns : tie.Need-returns
+returns c =
+    let d = c .before .before in
+    let t = d .before .before in
+    let a = t .before .before .before .before .args in
+    subst (λ b. Appends (degreeLine (a .k) (a .side) (oneIf b (a .one .now) (a .zero .now))) (a .text .now) (d .degree-line .last .0) (a .at) (d .degree-line .result) × (d .degree-line .result ≤ a .at + 2110))
+    (sym (eq-eqb _ _ (t .if1 .taken))) (d .degree-line .ensures)
+
+returns-2 : tie.Need-returns-2
+returns-2 c =
+    let d = c .before .before in
+    let t = d .before .before in
+    let a = t .before .before .before .before .args in
+    subst (λ b. Appends (degreeLine (a .k) (a .side) (oneIf b (a .one .now) (a .zero .now))) (a .text .now) (d .degree-line2 .last .0) (a .at) (d .degree-line2 .result) × (d .degree-line2 .result ≤ a .at + 2110))
+    (sym (ne-eqb _ _ (t .if1 .left))) (d .degree-line2 .ensures)
+
+pub report-line-spec : {M : Type 1} → statement M
+report-line-spec =
+    tie.close
+    (tie.spec
+    (λ c κs. search needs)
+    (λ c. search needs)
+    returns
+    (λ c κs. search needs)
+    (λ c. search needs)
+    returns-2)
