@@ -1,13 +1,13 @@
 -- The ranks at each degree as numbers.
 --   flat-none   no degree is written yet
 --   flat-next   the numbers of one degree more
-use mathlib.Core.Path.{_≡_, refl, sym, ap, ap₂, _∙_}
+use mathlib.Core.Path.{_≡_, refl, sym, ap, _∙_}
 use mathlib.Core.List.{List, [], _∷_, _++_, append-assoc}
-use Prim.Native.Nat.{ℕ, suc, _+_, _*_, _<_, _≤_}
+use Prim.Native.Nat.{ℕ, suc, _+_, _*_, _<_}
 use native.Mathlib.Numerals.{add-one}
 use native.Mathlib.Omega.{arith}
 use lib.ListN.{length, getD, set, take, length-set}
-use lib.Seq.{take-suc, take-suc-set, take-all}
+use lib.Seq.{take-suc, take-suc-set}
 use Rattle.immunity.specs.declared.judge.Ranks.{Ranks}
 use Rattle.immunity.specs.Judgement.{noRanks}
 use Rattle.exports.specs.Exported.{flat}

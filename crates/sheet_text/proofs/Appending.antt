@@ -7,15 +7,14 @@
 --   appends-moved    the buffer and the place under other names
 --   joined-snoc      the texts of the members of a list with one more at its end
 --   appends-next     the text of one more member behind those of a list
-use mathlib.Core.Path.{_≡_, refl, sym, ap, ap₂, _∙_, subst}
+use mathlib.Core.Path.{_≡_, refl, sym, ap, _∙_, subst}
 use mathlib.Core.List.{List, [], _∷_, _++_, append-nil, append-assoc}
-use Prim.Native.Nat.{ℕ, _+_, _*_, _≤_, _<_}
-use native.Mathlib.Nat.{add-assoc, add-zero}
+use Prim.Native.Nat.{ℕ, _+_, _≤_, _<_}
+use native.Mathlib.Nat.{add-zero}
 use native.Mathlib.Numerals.{add-one}
 use native.Mathlib.Omega.{arith}
 use lib.ListN.{length, getD, set, take, length-append}
 use lib.Seq.{paste, paste-suc, length-paste, take-paste, take-all}
-use Rattle.gf2.specs.Vector.{Each}
 use Rattle.sheet_text.specs.Text.{Bytes, joined, Appends}
 
 -- a turn of the loop that writes the bytes s

@@ -16,7 +16,7 @@
 --   filterSheet n s f       the sheet of a filter
 --   sheetOf o               the sheet for what Read answers
 --   sheet file              the sheet of a file
-use mathlib.Core.Bool.{Bool, not}
+use mathlib.Core.Bool.{not}
 use mathlib.Core.List.{List, [], _++_}
 use mathlib.Core.Option.{Option, none, some}
 use Prim.Native.Nat.{ℕ, zero, suc, _+_, _/_}

@@ -1,5 +1,4 @@
 use borrow.Author.Needs.{needs}
-use native.Mathlib.Omega.{arith}
 use Rattle.sheet_text.specs.Text.{ascii}
 use Rattle.sheet_text.proofs.Appending.{appends-then}
 use Rattle.sheet_text.proofs.lines.refused_line.Statement.{statement}

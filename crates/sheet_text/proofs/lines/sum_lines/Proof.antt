@@ -7,7 +7,6 @@ use native.Mathlib.Omega.{arith}
 use lib.ListN.{length}
 use borrow.Author.Tests.{eq-eqb, ne-eqb}
 use Rattle.cube.specs.Numbers.{upFrom, below, filter}
-use Rattle.cube.specs.Mask.{member}
 use Rattle.immunity.specs.Certificate.{bitOf}
 use Rattle.sheet_text.specs.Text.{joined, Appends}
 use Rattle.sheet_text.specs.Sheet.{sumLine}

@@ -5,15 +5,12 @@ use Prim.Native.Nat.{ℕ, min}
 use native.Mathlib.Nat.{zero-add, min-le-right}
 use native.Mathlib.Omega.{arith}
 use lib.ListN.{length, take, length-replicate, length-take}
-use lib.Seq.{length-take-le}
 use Rattle.refusal.specs.Refusal.{numberOf}
 use Rattle.refusal.specs.Outcome.{refused}
 use Rattle.io.specs.Counts.{Counts}
 use Rattle.filter_file.specs.Read.{readOutcome}
-use Rattle.immunity.specs.Judgement.{judged}
-use Rattle.immunity.specs.Demands.{JudgeAccepts}
 use Rattle.sheet_text.specs.Text.{Appends}
-use Rattle.sheet_text.specs.Sheet.{filterSheet, sheetOf, sheet}
+use Rattle.sheet_text.specs.Sheet.{sheet}
 use Rattle.sheet_text.proofs.Filters.{Filter, filter-judged, filter-sheet, read-filter, read-refused, refused-sheet}
 use Rattle.sheet_text.proofs.sheet.sheet.Statement.{statement}
 use Rattle.sheet_text.proofs.sheet.sheet.Tie as tie

@@ -1,5 +1,5 @@
 use borrow.Author.Needs.{needs}
-use mathlib.Core.Path.{ap, subst}
+use mathlib.Core.Path.{subst}
 use Prim.Native.Nat.{ℕ, _+_, _≤_}
 use lib.ListN.{length-replicate}
 use Rattle.sheet_text.specs.Text.{Appends}

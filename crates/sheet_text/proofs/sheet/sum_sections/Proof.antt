@@ -1,9 +1,8 @@
 use borrow.Author.Needs.{needs}
-use mathlib.Core.Path.{_≡_, refl, sym, ap, subst}
+use mathlib.Core.Path.{_≡_, refl, sym, ap}
 use mathlib.Core.List.{List, _++_}
-use Prim.Native.Nat.{ℕ, zero, suc, _+_, _-_, _≤_}
+use Prim.Native.Nat.{ℕ, zero, suc, _-_}
 use native.Mathlib.Omega.{arith}
-use Rattle.sheet_text.specs.Text.{Appends}
 use Rattle.sheet_text.specs.Sheet.{sideSums, sums}
 use Rattle.sheet_text.proofs.Appending.{appends-none, appends-then, appends-same}
 use Rattle.sheet_text.proofs.sheet.sum_sections.Statement.{statement}
