@@ -4,3 +4,4 @@ pub mod Decimals
 pub mod Outside
 pub mod Accepted
 pub mod Filters
+pub mod Sample
