@@ -29,3 +29,5 @@ pub mod Rows
 pub mod Joined
 pub mod Steps
 pub mod BothRows
+pub mod Prefix
+pub mod Tally

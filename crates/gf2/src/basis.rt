@@ -1,10 +1,11 @@
 // The kept rows of an elimination, a basis of the span of the rows taken: the first rows of the workspace, each with its
 // pivot.
 ghost use mathlib.Core.Path.{_≡_};
-ghost use Prim.Native.Nat.{_+_, _<_, _≤_};
-ghost use lib.ListN.{length};
+ghost use Prim.Native.Nat.{_+_, _*_, _<_, _≤_};
+ghost use lib.ListN.{length, take};
 ghost use Rattle.gf2.specs.Elimination.{isZero};
 ghost use Rattle.gf2.specs.Packed.{unpacked, rowOf, Pivots, Places, Reduces, reducedBoth, oneMoreUnless};
+ghost use Rattle.gf2.specs.Prefix.{countTo, sumTo, AtMost, Tallies};
 use crate::COLUMNS;
 use crate::packed::add_row;
 use crate::packed::entry;
@@ -27,6 +28,22 @@ pub fn reduce(ws: &mut [u64], pivots: &[u16], kept: usize, row: usize) -> u32
         j += 1;
     }
     count
+}
+
+// Row `row` is reduced by the `kept` rows before it, and each addition is counted in `tally` at the pivot of the row added.
+pub fn reduce_tallied(ws: &mut [u64], pivots: &[u16], tally: &mut [u32], kept: usize, row: usize)
+    requires { ⌜ (length (now ws) ≡ 8192) × (length (now pivots) ≡ 512) × (length (now tally) ≡ 512) × (kept ≤ 512) × (kept ≤ row) × (row < 1024) × Pivots (now pivots) (unpacked (now ws)) kept × AtMost 262144 (now tally) ⌝ }
+    ensures { λ _. ⌜ Tallies kept row (unpacked (now (ws .entry))) (unpacked (now (ws .exit))) (now (tally .entry)) (now (tally .exit)) ⌝ }
+{
+    let mut j: usize = 0;
+    while j < kept {
+        let c = pivots[j] as usize;
+        if entry(ws, row, c) {
+            add_row(ws, row, j);
+            tally[c] += 1;
+        }
+        j += 1;
+    }
 }
 
 // Row `row` is reduced by the `kept` rows before it, and with each of them that is added to it the row at its place is
@@ -65,4 +82,34 @@ pub fn keep(ws: &[u64], pivots: &mut [u16], kept: usize) -> usize
         return kept + 1;
     }
     kept
+}
+
+// How many of the first `kept` pivots are below `columns`.
+pub fn count_below(pivots: &[u16], kept: usize, columns: usize) -> usize
+    requires { ⌜ (length (now pivots) ≡ 512) × (kept ≤ 512) ⌝ }
+    ensures { λ r. ⌜ (r ≡ countTo columns (take kept (now (pivots .entry)))) × (r ≤ kept) ⌝ }
+{
+    let mut count: usize = 0;
+    let mut j: usize = 0;
+    while j < kept {
+        if (pivots[j] as usize) < columns {
+            count += 1;
+        }
+        j += 1;
+    }
+    count
+}
+
+// The sum of the first `columns` numbers of `tally`.
+pub fn sum_below(tally: &[u32], columns: usize) -> u32
+    requires { ⌜ (length (now tally) ≡ 512) × (columns ≤ 512) × AtMost 262144 (now tally) ⌝ }
+    ensures { λ r. ⌜ (r ≡ sumTo columns (now (tally .entry))) × (r ≤ columns * 262144) ⌝ }
+{
+    let mut sum: u32 = 0;
+    let mut i: usize = 0;
+    while i < columns {
+        sum += tally[i];
+        i += 1;
+    }
+    sum
 }
