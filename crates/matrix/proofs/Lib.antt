@@ -9,6 +9,7 @@ pub mod Listing
 pub mod Filling
 pub mod Taking
 pub mod Stored
+pub mod Tallied
 pub mod Ranked
 pub mod Checks
 pub mod RankOf

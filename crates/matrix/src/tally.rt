@@ -1,0 +1,55 @@
+// The eliminations at every number of columns at once: the rows are taken whole, and additions are counted by pivot.
+ghost use mathlib.Core.Path.{_≡_};
+ghost use Prim.Native.Nat.{_≤_, _<_};
+ghost use lib.ListN.{length};
+ghost use Rattle.cube.specs.Mask.{points};
+ghost use Rattle.gf2.specs.Packed.{unpacked, rowOf, zeros, Pivots};
+ghost use Rattle.gf2.specs.Prefix.{AtMost};
+ghost use Rattle.matrix.specs.Workspace.{TakesAll, EliminatesAll};
+use crate::FIRST_POINT;
+use cube::POINTS;
+use gf2::COLUMNS;
+use gf2::basis::keep;
+use gf2::basis::reduce_tallied;
+use gf2::packed::copy_columns;
+
+// Row `from` is taken: what is left of it is kept if it is not zero. The result is the number of kept rows.
+fn take_tallied(
+    ws: &mut [u64],
+    pivots: &mut [u16],
+    tally: &mut [u32],
+    kept: usize,
+    from: usize,
+) -> usize
+    requires { ⌜ (length (now ws) ≡ 8192) × (length (now pivots) ≡ 512) × (length (now tally) ≡ 512) × (kept < 512) × (from < 1024) × Pivots (now pivots) (unpacked (now ws)) kept × AtMost 262144 (now tally) ⌝ }
+    ensures { λ r. ⌜ TakesAll (unpacked (now (ws .entry))) (unpacked (now (ws .exit))) kept r (rowOf (unpacked (now (ws .entry))) from) (now (tally .entry)) (now (tally .exit)) ⌝ }
+    ensures { λ r. ⌜ Pivots (now (pivots .exit)) (unpacked (now (ws .exit))) r ⌝ }
+{
+    copy_columns(ws, kept, from, COLUMNS);
+    reduce_tallied(ws, pivots, tally, kept, kept);
+    keep(ws, pivots, kept)
+}
+
+// The points of `mask` are taken, each with the row in its place. The result is the number of kept rows; `pivots` has the
+// pivot of each, and `tally`, which holds zeros at entry, the additions by pivot.
+pub fn eliminate_tallied(
+    ws: &mut [u64],
+    pivots: &mut [u16],
+    tally: &mut [u32],
+    mask: &[u8],
+) -> usize
+    requires { ⌜ (length (now ws) ≡ 8192) × (length (now pivots) ≡ 512) × (now tally ≡ zeros 512) × (length (now mask) ≡ 512) ⌝ }
+    ensures { λ r. ⌜ EliminatesAll (unpacked (now (ws .entry))) (unpacked (now (ws .exit))) (points (now (mask .entry))) r (now (tally .exit)) ⌝ }
+    ensures { λ r. ⌜ (r ≤ 512) × AtMost 262144 (now (tally .exit)) ⌝ }
+    ensures { λ r. ⌜ Pivots (now (pivots .exit)) (unpacked (now (ws .exit))) r ⌝ }
+{
+    let mut kept: usize = 0;
+    let mut a: usize = 0;
+    while a < POINTS {
+        if mask[a] == 1 {
+            kept = take_tallied(ws, pivots, tally, kept, FIRST_POINT + a);
+        }
+        a += 1;
+    }
+    kept
+}
