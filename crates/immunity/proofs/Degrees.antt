@@ -7,7 +7,9 @@
 --   ranks-none        a list that is all 0 has those at none
 --   ranks-next        those of one degree more
 --   ranks-all         those up to n
-use mathlib.Core.Path.{_≡_, sym, ap, _∙_}
+--   ranks-same        ranks that are equal at the degrees up to n
+--   summed-three      the sum of three numbers for each member
+use mathlib.Core.Path.{_≡_, refl, sym, ap, ap₂, _∙_}
 use mathlib.Core.List.{List, [], _∷_, map}
 use Prim.Native.Nat.{ℕ, suc, _+_, _-_, _≤_, _<_}
 use native.Mathlib.Decide.{decLt}
@@ -21,7 +23,7 @@ use borrow.Author.Tests.{le-leb, lt-leb}
 use Rattle.cube.specs.Numbers.{upFrom, below}
 use Rattle.cube.proofs.Masks.{length-from, value-at}
 use Rattle.immunity.specs.declared.judge.Ranks.{Ranks}
-use Rattle.immunity.specs.Judgement.{noRanks, ranksIf}
+use Rattle.immunity.specs.Judgement.{noRanks, ranksIf, summed}
 
 -- the degrees from d on up to n
 abbrev pub degreesFrom : ℕ → ℕ → List ℕ
@@ -79,3 +81,19 @@ module _ (f : ℕ → Ranks) where
         | yes h ↦ r .others k (omega arith) ∙ rw (lt-leb k n h)
         | no h ↦ r .found k (omega arith) ∙ rw (le-leb k n (omega arith))
       ]
+
+-- ranks that are equal at the degrees up to n
+pub ranks-same : (f g : ℕ → Ranks) (n : ℕ) → ((d : ℕ) → d ≤ n → f d ≡ g d) → (ds : List ℕ)
+    → map (λ d. ranksIf (leb d n) (f d)) ds ≡ map (λ d. ranksIf (leb d n) (g d)) ds
+unfolding ranksIf
+ranks-same f g n e [] = refl
+ranks-same f g n e (d ∷ ds) = ap₂ {C = List Ranks} (λ x xs. x ∷ xs) here (ranks-same f g n e ds)
+  where
+    here : ranksIf (leb d n) (f d) ≡ ranksIf (leb d n) (g d)
+    here = elim (decLt n d) [ yes h ↦ rw (lt-leb d n h) | no h ↦ ap (ranksIf (leb d n)) (e d (omega arith)) ]
+
+-- the sum of three numbers for each member
+pub summed-three : (f g h : ℕ → ℕ) (xs : List ℕ) → summed (λ x. f x + g x + h x) xs ≡ summed f xs + summed g xs + summed h xs
+unfolding summed
+summed-three f g h [] = omega arith
+summed-three f g h (x ∷ xs) = omega (arith, summed-three f g h xs)

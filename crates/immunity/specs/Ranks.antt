@@ -1,6 +1,7 @@
 -- The ranks of three lists of points, and what the search for them needs.
 --   ranksOf o n d ss ps qs       the ranks of the points ss, ps and qs at degree d
 --   ranksUpTo o n ss ps qs d     the same up to degree n, and all 0 past it
+--   ranksIn ss ps qs d           the ranks at degree d that three lists of ranks give
 --   additionsOf o n d ss ps qs   the additions of the three eliminations
 --   differ r                     the second or the third rank is not the first
 --   Ready o n ws s p q           a workspace with the row of each point of n taps in its place, and three masks of such points
@@ -9,7 +10,7 @@ use mathlib.Core.Bool.{Bool, not, _||_}
 use mathlib.Core.List.{List}
 use Prim.Native.Nat.{ℕ, _+_, _≤_}
 use lib.Dec.{eqb, leb}
-use lib.ListN.{length}
+use lib.ListN.{length, getD}
 use Rattle.cube.specs.Numbers.{Inside}
 use Rattle.cube.specs.Cube.{size}
 use Rattle.cube.specs.Mask.{points}
@@ -27,6 +28,10 @@ ranksOf o n d ss ps qs = record { set = rankOf o n d ss; one = rankOf o n d ps; 
 -- the same up to degree n, all 0 past it
 abbrev pub ranksUpTo : List ℕ → ℕ → List ℕ → List ℕ → List ℕ → ℕ → Ranks
 ranksUpTo o n ss ps qs d = ranksIf (leb d n) (ranksOf o n d ss ps qs)
+
+-- the ranks at a degree that three lists give
+abbrev pub ranksIn : List ℕ → List ℕ → List ℕ → ℕ → Ranks
+ranksIn ss ps qs d = record { set = getD ss d 0; one = getD ps d 0; zero = getD qs d 0 }
 
 -- the additions of the three eliminations
 abbrev pub additionsOf : List ℕ → ℕ → ℕ → List ℕ → List ℕ → List ℕ → ℕ

@@ -4,17 +4,20 @@ ghost use mathlib.Core.List.{map};
 ghost use mathlib.Core.Option.{some};
 ghost use mathlib.Core.Bool.{true, false, not};
 ghost use Prim.Native.Nat.{ℕ, _+_, _≤_};
-ghost use lib.Dec.{eqb};
+ghost use lib.Dec.{eqb, leb};
 ghost use lib.ListN.{length, getD, drop, replicate};
-ghost use Rattle.cube.specs.Numbers.{below, isEmpty};
-ghost use Rattle.cube.specs.Cube.{taps};
+ghost use Rattle.cube.specs.Numbers.{below, isEmpty, Inside};
+ghost use Rattle.cube.specs.Cube.{taps, size as sizeOf};
 ghost use Rattle.cube.specs.Mask.{wellFormed, points, byte, mask};
+ghost use Rattle.cube.specs.Order.{Graded};
 ghost use Rattle.gf2.specs.Packed.{unpacked};
+ghost use Rattle.matrix.specs.Matrix.{eliminated, rankOf};
+ghost use Rattle.matrix.specs.Workspace.{exponents, RowsFrom};
 ghost use Rattle.immunity.specs.declared.judge.Finding.the-variants.{Refused};
 ghost use Rattle.immunity.specs.First.{first};
 ghost use Rattle.immunity.specs.Witness.{witnessAt};
-ghost use Rattle.immunity.specs.Judgement.{noRanks, summed};
-ghost use Rattle.immunity.specs.Ranks.{ranksOf, ranksUpTo, additionsOf, differ, Ready};
+ghost use Rattle.immunity.specs.Judgement.{noRanks, ranksIf, summed};
+ghost use Rattle.immunity.specs.Ranks.{ranksIn, ranksUpTo, additionsOf, differ, Ready};
 ghost use Rattle.immunity.specs.Judge.{Judges};
 use crate::part::part_mask;
 use crate::witness::write_witness;
@@ -23,11 +26,14 @@ use cube::mask::is_empty;
 use cube::mask::well_formed;
 use cube::order::graded_order;
 use cube::valid_taps;
+use gf2::COLUMNS;
 use gf2::WORKSPACE;
+use gf2::basis::count_below;
+use gf2::basis::sum_below;
 use gf2::packed::clear;
-use matrix::elimination::eliminate;
 use matrix::rows::column_count;
 use matrix::rows::fill_rows;
+use matrix::tally::eliminate_tallied;
 use refusal::Refusal;
 
 // The number of degrees of nine taps.
@@ -56,9 +62,9 @@ pub struct JudgeAnswer {
     pub ranks: [Ranks; 10],
 }
 
-// The ranks at one degree, and the additions of the eliminations that find them.
-struct DegreeRanks {
-    ranks: Ranks,
+// The ranks of one mask at each degree, and the additions of the eliminations that find them.
+struct MaskRanks {
+    ranks: [u16; 10],
     additions: u32,
 }
 
@@ -169,33 +175,48 @@ fn judge_points(
     }
 }
 
-// The ranks of the points of three masks at degree `d`.
-fn ranks_at(
-    ws: &mut [u64],
-    order: &[u16; 512],
-    set: &[u8],
-    one: &[u8],
-    zero: &[u8],
-    n: usize,
-    d: usize,
-) -> DegreeRanks
-    requires { ⌜ Ready (now order) n (now ws) (now set) (now one) (now zero) × (d ≤ n) ⌝ }
-    ensures { λ r. ⌜ r .ranks ≡ ranksOf (now (order .entry)) n d (points (now (set .entry))) (points (now (one .entry))) (points (now (zero .entry))) ⌝ }
-    ensures { λ r. ⌜ r .additions ≡ additionsOf (now (order .entry)) n d (points (now (set .entry))) (points (now (one .entry))) (points (now (zero .entry))) ⌝ }
-    ensures { λ r. ⌜ (r .additions ≤ 786432) × (drop 512 (unpacked (now (ws .exit))) ≡ drop 512 (unpacked (now (ws .entry)))) ⌝ }
+// The ranks of the points of one mask at each degree up to `n`, and all 0 past it: one elimination finds them all.
+fn mask_ranks(ws: &mut [u64], order: &[u16; 512], mask: &[u8], n: usize) -> MaskRanks
+    requires { ⌜ (length (now ws) ≡ 8192) × (length (now mask) ≡ 512) × Graded (now order) × (n ≤ 9) × Inside (sizeOf n) (points (now mask)) × RowsFrom (exponents (now order) n) n (unpacked (now ws)) 0 ⌝ }
+    ensures { λ r. ⌜ ((d : ℕ) → d ≤ n → getD (r .ranks) d 0 ≡ rankOf (now (order .entry)) n d (points (now (mask .entry)))) ⌝ }
+    ensures { λ r. ⌜ r .additions ≡ summed (λ d. eliminated (now (order .entry)) n d (points (now (mask .entry))) .additions) (below (n + 1)) ⌝ }
+    ensures { λ r. ⌜ (r .additions ≤ 1342177280) × (drop 512 (unpacked (now (ws .exit))) ≡ drop 512 (unpacked (now (ws .entry)))) ⌝ }
 {
-    let columns = column_count(order, n, d);
-    let s = eliminate(ws, set, columns);
-    let p = eliminate(ws, one, columns);
-    let q = eliminate(ws, zero, columns);
-    DegreeRanks {
-        ranks: Ranks {
-            set: s.kept as u16,
-            one: p.kept as u16,
-            zero: q.kept as u16,
-        },
-        additions: s.additions + p.additions + q.additions,
+    let mut pivots = [0u16; COLUMNS];
+    let mut tally = [0u32; COLUMNS];
+    let kept = eliminate_tallied(ws, &mut pivots, &mut tally, mask);
+    let mut ranks = [0u16; DEGREES];
+    let mut additions: u32 = 0;
+    let mut d: usize = 0;
+    while d <= n {
+        let columns = column_count(order, n, d);
+        ranks[d] = count_below(&pivots, kept, columns) as u16;
+        additions += sum_below(&tally, columns);
+        d += 1;
     }
+    MaskRanks { ranks, additions }
+}
+
+// The ranks of three masks at each degree up to `n`, side by side, and all 0 past it.
+fn by_degree(set: [u16; 10], one: [u16; 10], zero: [u16; 10], n: usize) -> [Ranks; 10]
+    requires { ⌜ n ≤ 9 ⌝ }
+    ensures { λ r. ⌜ r ≡ map (λ d. ranksIf (leb d n) (ranksIn set one zero d)) (below 10) ⌝ }
+{
+    let mut ranks = [Ranks {
+        set: 0,
+        one: 0,
+        zero: 0,
+    }; DEGREES];
+    let mut d: usize = 0;
+    while d <= n {
+        ranks[d] = Ranks {
+            set: set[d],
+            one: one[d],
+            zero: zero[d],
+        };
+        d += 1;
+    }
+    ranks
 }
 
 // The ranks of the points of three masks at each degree up to `n`, and all 0 past it.
@@ -212,21 +233,16 @@ fn all_ranks(
     ensures { λ r. ⌜ r .additions ≡ summed (λ d. additionsOf (now (order .entry)) n d (points (now (set .entry))) (points (now (one .entry))) (points (now (zero .entry)))) (below (n + 1)) ⌝ }
     ensures { λ r. ⌜ drop 512 (unpacked (now (ws .exit))) ≡ drop 512 (unpacked (now (ws .entry))) ⌝ }
 {
-    let mut ranks = [Ranks {
-        set: 0,
-        one: 0,
-        zero: 0,
-    }; DEGREES];
-    let mut additions: u32 = 0;
-    let mut d: usize = 0;
-    while d <= n {
-        let found = ranks_at(ws, order, set, one, zero, n, d);
-        let here = found.ranks;
-        ranks[d] = here;
-        additions += found.additions;
-        d += 1;
+    let s = mask_ranks(ws, order, set, n);
+    let p = mask_ranks(ws, order, one, n);
+    let q = mask_ranks(ws, order, zero, n);
+    let set_ranks = s.ranks;
+    let one_ranks = p.ranks;
+    let zero_ranks = q.ranks;
+    FoundRanks {
+        ranks: by_degree(set_ranks, one_ranks, zero_ranks, n),
+        additions: s.additions + p.additions + q.additions,
     }
-    FoundRanks { ranks, additions }
 }
 
 // The witnesses against the parts `p` and `q` of the set at degree `d` are written.
