@@ -105,17 +105,34 @@ impl<'a> Basis<'a> {
         true
     }
 
-    // Takes a row: it is reduced by the kept rows, and kept if it is not zero; whether it is kept.
-    pub fn take(&mut self, mut v: Row) -> bool {
-        let mut additions = 0;
+    // What is left of the row when it is reduced by the kept rows; `added` is told the pivot of each row added.
+    fn reduce(&self, mut v: Row, mut added: impl FnMut(u16)) -> Row {
         for (row, c) in self.rows() {
             if has(&v, c) {
                 add(&mut v, row);
-                additions += 1;
+                added(c);
             }
         }
+        v
+    }
+
+    // Takes a row: it is reduced by the kept rows, and kept if it is not zero; whether it is kept.
+    pub fn take(&mut self, v: Row) -> bool {
+        let mut additions = 0;
+        let left = self.reduce(v, |_| additions += 1);
         self.additions += additions;
-        self.keep(v)
+        self.keep(left)
+    }
+
+    // Takes a row, and tallies each addition at the pivot of the row added.
+    pub fn take_tallied(&mut self, v: Row, tally: &mut [u32; POINTS]) {
+        let left = self.reduce(v, |c| tally[usize::from(c) % POINTS] += 1);
+        self.keep(left);
+    }
+
+    // How many of the pivots are among the first `columns` columns.
+    pub fn pivots_below(&self, columns: usize) -> usize {
+        self.pivots[..self.rank].iter().filter(|c| usize::from(**c) < columns).count()
     }
 }
 
@@ -129,6 +146,13 @@ pub fn eliminate<'a>(mask: &[u8], columns: usize, kept: &'a mut [Row], rows: &[R
     let mut basis = Basis::new(kept);
     rows_of(mask, rows).for_each(|row| _ = basis.take(first_columns(row, columns)));
     basis
+}
+
+// The elimination of the mask's points with all columns, and at each column how often the row with that pivot is added.
+pub fn eliminate_tallied<'a>(mask: &[u8], kept: &'a mut [Row], rows: &[Row]) -> (Basis<'a>, [u32; POINTS]) {
+    let (mut basis, mut tally) = (Basis::new(kept), [0; POINTS]);
+    rows_of(mask, rows).for_each(|row| basis.take_tallied(*row, &mut tally));
+    (basis, tally)
 }
 
 // The places of the kept rows, and the rows of all points of n taps at degree n: the halves of the workspace.

@@ -1,5 +1,5 @@
-// Judge of the proved library in C, by the same steps: rows made once, three eliminations at each degree, the first
-// difference, and two witnesses by back substitution.
+// Judge of the proved library in C, by the same steps: rows made once, an elimination with all columns for the set and
+// each part, the ranks at each degree from its pivots, the first difference, and two witnesses by back substitution.
 #include "elimination.h"
 #include <string.h>
 
@@ -49,17 +49,59 @@ static void write_witness(uint8_t *witness, const uint8_t *set, const uint8_t *p
     write_choice(witness, n, row);
 }
 
-// The ranks of the three masks at each degree; the additions of all eliminations.
+// Takes the row of the point a with all columns, and tallies each addition at the pivot of the row added.
+static void take_tallied(struct basis *basis, uint32_t *tally, int a, uint64_t *workspace) {
+    uint64_t *v = workspace + basis->kept * WORDS;
+    memcpy(v, workspace + (POINTS + a) * WORDS, WORDS * sizeof *v);
+    for (size_t j = 0; j < basis->kept; j++) {
+        int c = basis->pivots[j];
+        if (has(v, c)) {
+            add(v, workspace + j * WORDS);
+            tally[c]++;
+        }
+    }
+    keep(basis, v);
+}
+
+// The elimination of the mask's points with all columns, and at each column how often the row with that pivot is added.
+static void eliminate_tallied(struct basis *basis, uint32_t *tally, const uint8_t *mask, uint64_t *workspace) {
+    basis->kept = 0;
+    memset(tally, 0, POINTS * sizeof *tally);
+    for (int a = 0; a < POINTS; a++)
+        if (mask[a] == 1)
+            take_tallied(basis, tally, a, workspace);
+}
+
+// How many of the pivots are among the first `columns` columns.
+static size_t pivots_below(const struct basis *basis, int columns) {
+    size_t count = 0;
+    for (size_t j = 0; j < basis->kept; j++)
+        count += basis->pivots[j] < columns;
+    return count;
+}
+
+// The sum of the tally at the first `columns` columns.
+static uint32_t tally_below(const uint32_t *tally, int columns) {
+    uint32_t sum = 0;
+    for (int c = 0; c < columns; c++)
+        sum += tally[c];
+    return sum;
+}
+
+// The ranks of the three masks at each degree; all additions. The columns of a degree are the first ones, and a kept row
+// whose pivot is past them is zero in them.
 static uint32_t all_ranks(size_t ranks[DEGREES][3], const uint8_t *masks[3], size_t n, uint64_t *workspace) {
-    uint32_t additions = 0;
+    int columns[DEGREES];
+    uint32_t additions = 0, tally[POINTS];
+    struct basis basis;
     memset(ranks, 0, DEGREES * sizeof *ranks);
-    for (size_t d = 0; d <= n; d++) {
-        int columns = column_count(n, d);
-        for (int i = 0; i < 3; i++) {
-            struct basis basis;
-            eliminate(&basis, masks[i], columns, workspace);
-            ranks[d][i] = basis.kept;
-            additions += basis.additions;
+    for (size_t d = 0; d <= n; d++)
+        columns[d] = column_count(n, d);
+    for (int i = 0; i < 3; i++) {
+        eliminate_tallied(&basis, tally, masks[i], workspace);
+        for (size_t d = 0; d <= n; d++) {
+            ranks[d][i] = pivots_below(&basis, columns[d]);
+            additions += tally_below(tally, columns[d]);
         }
     }
     return additions;

@@ -1,6 +1,8 @@
-// Judge of the proved library in Rust, by the same steps: rows made once, three eliminations at each degree, the first
-// difference, and two witnesses by back substitution.
-use crate::elimination::{Basis, Row, column_count, eliminate, exponents, first_columns, has, prepare, rows_of};
+// Judge of the proved library in Rust, by the same steps: rows made once, an elimination with all columns for the set and
+// each part, the ranks at each degree from its pivots, the first difference, and two witnesses by back substitution.
+use crate::elimination::{
+    Basis, Row, column_count, eliminate, eliminate_tallied, exponents, first_columns, has, prepare, rows_of,
+};
 use independent::judgement::{Filter, Judgement};
 
 // The mask of the points of the set where the table is the side.
@@ -31,20 +33,27 @@ fn write_witness(witness: &mut [u8], [set, part]: [&[u8]; 2], n: usize, d: usize
     }
 }
 
+// The ranks of the three masks at each degree, and all additions. The columns of a degree are the first ones, and a kept
+// row whose pivot is past them is zero in them.
+fn all_ranks(masks: [&[u8]; 3], n: usize, kept: &mut [Row], rows: &[Row]) -> ([[usize; 3]; 10], u32) {
+    let columns: [usize; 10] = std::array::from_fn(|d| column_count(n, d));
+    let (mut ranks, mut additions) = ([[0; 3]; 10], 0);
+    for (i, mask) in masks.into_iter().enumerate() {
+        let (basis, tally) = eliminate_tallied(mask, kept, rows);
+        for (line, columns) in ranks.iter_mut().zip(columns).take(n + 1) {
+            line[i] = basis.pivots_below(columns);
+            additions += tally[..columns].iter().sum::<u32>();
+        }
+    }
+    (ranks, additions)
+}
+
 // Judge of a filter; the workspace is zero at exit.
 pub fn judge(filter: Filter, workspace: &mut [u64], one: &mut [u8], zero: &mut [u8]) -> Judgement {
     let (n, set) = (filter.n, filter.set);
     let (part_one, part_zero) = (part_mask(filter, 1), part_mask(filter, 0));
     let (kept, rows) = prepare(n, workspace);
-    let (mut ranks, mut additions) = ([[0; 3]; 10], 0);
-    for (d, line) in ranks.iter_mut().enumerate().take(n + 1) {
-        let columns = column_count(n, d);
-        *line = [set, &part_one, &part_zero].map(|mask| {
-            let basis = eliminate(mask, columns, kept, rows);
-            additions += basis.additions;
-            basis.rank
-        });
-    }
+    let (ranks, additions) = all_ranks([set, &part_one, &part_zero], n, kept, rows);
     let degree = ranks.iter().position(|[all, one, zero]| all != one || all != zero).expect("at n a part differs");
     write_witness(one, [set, &part_one], n, degree, kept, rows);
     write_witness(zero, [set, &part_zero], n, degree, kept, rows);

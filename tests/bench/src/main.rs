@@ -14,7 +14,7 @@ use independent::filter_file::Triple;
 use independent::judgement::Filter;
 use independent::normal_form::weight;
 use independent::random::Random;
-use independent::samples::mask_of;
+use independent::samples::{mask_of, pairs};
 use timing::{Contender, line, race};
 
 const RUNS: usize = 120;
@@ -54,6 +54,17 @@ fn bench_judgement(title: &str, set: &[u8], table: &[u8]) {
     }
 }
 
+// Judge of a filter of every n and every kind of set and table, once by each contender: the same answers.
+fn compare_judges() {
+    let mut random = Random(2);
+    let kinds = pairs(&[1, 2, 3, 4, 5, 6, 7, 8, 9], &pairs(&[0, 1, 2, 3, 4, 5], &[0, 1, 2, 3, 4]));
+    for (n, (for_set, for_table)) in &kinds {
+        let (set, table) = (random.set(*n, *for_set), random.table(*n, *for_table));
+        race(1, &judges(Filter { n: *n, set: &set, table: &table }));
+    }
+    println!("Judge of {} filters of one to nine taps: every contender gives the proved answer", kinds.len());
+}
+
 // Read of the largest file: nine taps, both lists full.
 fn bench_read() {
     let all: Vec<usize> = (0..512).collect();
@@ -72,6 +83,8 @@ fn main() {
         println!("no M4RI (Debian's libm4ri-dev): the comparison with it is skipped");
     }
     let (all, half) = (mask_of(9, |_| true), Random(1).mask(9, 4));
+    println!("proved: the static library; Rust and C: the same algorithms at -O3");
+    compare_judges();
     bench_rank("all 512 points", &all);
     bench_rank("a random half", &half);
     bench_judgement("all 512 points, a random table", &all, &half);
