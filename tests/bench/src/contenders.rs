@@ -4,11 +4,12 @@ use crate::timing::Contender;
 use crate::{c, certify, elimination, judge, m4ri};
 use independent::judgement::{Filter, Judgement};
 use independent::rank::Ranking;
+use std::time::Duration;
 
 pub type Rank = fn(&[u8], usize, usize, &mut [u64]) -> Ranking;
 pub type Judge = fn(Filter, &mut [u64], &mut [u8], &mut [u8]) -> Judgement;
 pub type Certify = fn(Filter, u8, usize, &mut [u64], &mut [u64]) -> Result<(), u8>;
-pub type RankSum = fn([&[u8; 512]; 3], usize) -> usize;
+pub type RankSum = fn([&[u8; 512]; 3], usize) -> (usize, [Duration; 2]);
 
 // What Judge answers and leaves in the witness buffers, and what Certify answers and leaves in the certificate.
 pub type Judged = (Judgement, [[u8; 512]; 2]);
@@ -28,15 +29,28 @@ fn judged(judge: Judge, filter: Filter, workspace: &mut [u64]) -> Judged {
     (judge(filter, workspace, one, zero), witnesses)
 }
 
+// The masks of the set, of part 1 and of part 0.
+fn masks(filter: Filter) -> [[u8; 512]; 3] {
+    [filter.set.try_into().expect("512 bytes"), part_mask(filter, 1), part_mask(filter, 0)]
+}
+
 // The ranks of Judge by M4RI: the answer wanted, once the sum of the ranks is right.
 fn ranked(rank_sum: RankSum, filter: Filter<'_>) -> Contender<'_, Judged> {
     let wanted = judged(judge::judge, filter, &mut [0; 8192]);
-    let masks = [filter.set.try_into().expect("512 bytes"), part_mask(filter, 1), part_mask(filter, 0)];
+    let masks = masks(filter);
     let sum: usize = wanted.0.ranks.as_flattened().iter().sum();
     Box::new(move |_| {
-        assert_eq!(rank_sum(masks.each_ref(), filter.n), sum, "the ranks by M4RI");
+        assert_eq!(rank_sum(masks.each_ref(), filter.n).0, sum, "the ranks by M4RI");
         wanted.clone()
     })
+}
+
+// The least microseconds of M4RI over so many calls, to build the matrices and to echelonize them.
+pub fn m4ri_steps(runs: usize, filter: Filter) -> Option<[f64; 2]> {
+    let (rank_sum, masks) = (m4ri::RANK_SUM?, masks(filter));
+    let times = (0..runs).map(|_| rank_sum(masks.each_ref(), filter.n).1);
+    let least = times.reduce(|[build, echelonize], [b, e]| [build.min(b), echelonize.min(e)])?;
+    Some(least.map(|time| time.as_secs_f64() * 1e6))
 }
 
 // Judge of the filter.

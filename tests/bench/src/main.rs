@@ -9,7 +9,7 @@ mod judge; // judge.rs: Judge in Rust
 mod m4ri; // m4ri.rs: the ranks by M4RI
 mod timing; // timing.rs: several contenders timed in one run
 
-use contenders::{certifies, judges, ranks};
+use contenders::{certifies, judges, m4ri_steps, ranks};
 use independent::filter_file::Triple;
 use independent::judgement::Filter;
 use independent::normal_form::weight;
@@ -48,6 +48,9 @@ fn bench_judgement(title: &str, set: &[u8], table: &[u8]) {
     println!("Judge and Certify, n = 9, {title}; microseconds, least of {RUNS} runs");
     println!("                 {}", heads(true));
     println!("Judge, degree {k}  {}", line(&times));
+    if let Some([build, echelonize]) = m4ri_steps(RUNS, filter) {
+        println!("M4RI, the ranks alone, from 30 matrices: build {build:.1}, echelonize {echelonize:.1}");
+    }
     for (d, side) in k.checked_sub(1).into_iter().flat_map(|d| [(d, 1), (d, 0)]) {
         let (_, times) = race(RUNS, &certifies(filter, side, d));
         println!("side {side}, d = {d}    {}", line(&times));

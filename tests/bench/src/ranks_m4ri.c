@@ -1,4 +1,4 @@
-// The ranks of the matrices of points against monomials by M4RI: each matrix is built, then echelonized.
+// The rank of a matrix of points against monomials by M4RI: the matrix is built, then echelonized.
 #include <m4ri/m4ri.h>
 #include <stddef.h>
 #include <stdint.h>
@@ -34,24 +34,23 @@ static void write_row(mzd_t *matrix, int i, int a, const int *exponents, int col
     }
 }
 
-// The rank of the mask's points of n taps at degree d.
-static size_t rank_of(const uint8_t *mask, size_t n, size_t d) {
+// The matrix of the mask's points of n taps at degree d; none where the mask is empty.
+mzd_t *m4ri_build(const uint8_t *mask, size_t n, size_t d) {
     int points[POINTS], exponents[POINTS];
     int rows = list_points(mask, points), columns = list_exponents(n, d, exponents);
     if (rows == 0)
-        return 0;
+        return NULL;
     mzd_t *matrix = mzd_init(rows, columns);
     for (int i = 0; i < rows; i++)
         write_row(matrix, i, points[i], exponents, columns);
+    return matrix;
+}
+
+// The rank of the matrix, 0 for none; the matrix is echelonized and freed.
+size_t m4ri_echelonize(mzd_t *matrix) {
+    if (!matrix)
+        return 0;
     size_t rank = mzd_echelonize(matrix, 0);
     mzd_free(matrix);
     return rank;
-}
-
-// The sum of the ranks of the three masks of n taps at each degree.
-size_t m4ri_ranks(const uint8_t *set, const uint8_t *one, const uint8_t *zero, size_t n) {
-    size_t sum = 0;
-    for (size_t d = 0; d <= n; d++)
-        sum += rank_of(set, n, d) + rank_of(one, n, d) + rank_of(zero, n, d);
-    return sum;
 }
