@@ -2,7 +2,7 @@
 use independent::filter_file::{Triple, house_number, parse, read};
 use independent::random::Random;
 use independent::refusal::Refusal;
-use independent::samples::{LISTED_FILES, mask_of};
+use independent::samples::{LISTED_FILES, PRINTED_FILE, mask_of};
 
 #[test]
 fn the_listed_files() {
@@ -16,8 +16,7 @@ fn the_listed_files() {
 #[test]
 fn the_file_of_the_printed_sheet() {
     let (mut set, mut table) = (vec![7; 512], vec![7; 512]);
-    let file = [0x02, 0x04, 0x00, 0x01, 0x01, 0x01, 0x01, 0x03];
-    assert_eq!(read(&file, &mut set, &mut table), Ok(2));
+    assert_eq!(read(&PRINTED_FILE, &mut set, &mut table), Ok(2));
     assert_eq!((set, table), (mask_of(2, |_| true), mask_of(2, |a| a == 3)));
 }
 

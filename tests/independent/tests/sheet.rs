@@ -1,5 +1,5 @@
 // The printed sheet of the independent implementation, against the document.
-use independent::samples::LISTED_FILES;
+use independent::samples::{LISTED_FILES, PRINTED_FILE};
 use independent::sheet::sheet;
 
 #[test]
@@ -16,7 +16,7 @@ fn the_printed_sheet() {
         "side 0 point 3 sum 0",
         "additions 19",
     ];
-    assert_eq!(sheet(&[0x02, 0x04, 0x00, 0x01, 0x01, 0x01, 0x01, 0x03]).lines().collect::<Vec<_>>(), lines);
+    assert_eq!(sheet(&PRINTED_FILE).lines().collect::<Vec<_>>(), lines);
 }
 
 #[test]

@@ -1,0 +1,150 @@
+// The proved sheet program against the independent implementation, byte for byte.
+use independent::filter_file::Triple;
+use independent::random::Random;
+use independent::rank::points_of;
+use independent::samples::{LISTED_FILES, PRINTED_FILE, Tally, pairs};
+use independent::sheet::sheet;
+use program::{limited, offer, printed, run_fed, sheet_of, sheet_program};
+use std::fs::File;
+use std::process::ChildStdin;
+use std::thread::sleep;
+use std::time::Duration;
+
+const TAPS: [usize; 9] = [1, 2, 3, 4, 5, 6, 7, 8, 9];
+
+// The number of the refusal that the sheet is, or 0.
+fn refusal(text: &str) -> u8 {
+    text.strip_prefix("refused ").map_or(0, |number| number.trim_end().parse().expect("a number"))
+}
+
+// Both sheets of each input are the same. The numbers that were answered so often, 0 for a filter judged.
+fn compare(inputs: &[Vec<u8>], least: usize) -> Vec<usize> {
+    let mut tally = Tally::default();
+    for input in inputs {
+        let text = sheet_of(input);
+        assert!(text == sheet(input), "the sheet of {input:02x?} is\n{text}");
+        let number = refusal(&text);
+        tally.count(if number == 0 { Ok(()) } else { Err(number) });
+    }
+    tally.numbers(least)
+}
+
+// So many files of each kind of set and each kind of table of n taps.
+fn files(random: &mut Random, n: usize, count: usize) -> Vec<Vec<u8>> {
+    let kinds = pairs(&[0, 1, 2, 3, 4, 5], &[0, 1, 2, 3, 4]);
+    let drawn = kinds.repeat(count).into_iter().map(|(for_set, for_table)| {
+        let (set, table) = (random.set(n, for_set), random.table(n, for_table));
+        Triple { n, set: points_of(&set), table: points_of(&table) }.file()
+    });
+    drawn.collect()
+}
+
+#[test]
+fn the_listed_files() {
+    for (file, number) in LISTED_FILES {
+        assert_eq!(compare(&[file.to_vec()], 1), [usize::from(number)], "{file:02x?}");
+    }
+}
+
+#[test]
+fn every_kind_of_filter_of_up_to_six_taps() {
+    let mut random = Random(1);
+    for n in 1..=6 {
+        assert_eq!(compare(&files(&mut random, n, 5), 150), [0]);
+    }
+}
+
+#[test]
+fn every_kind_of_filter_of_seven_to_nine_taps() {
+    let mut random = Random(2);
+    for (n, count) in [(7, 3), (8, 1), (9, 1)] {
+        assert_eq!(compare(&files(&mut random, n, count), 30), [0]);
+    }
+}
+
+// The file with a change at a random place: cut there, or a byte dropped, replaced or put in.
+fn damage(random: &mut Random, mut file: Vec<u8>) -> Vec<u8> {
+    let (place, value) = (random.below(file.len()), random.pick(&[0, 1, 2, 3, 9, 0x0a, 0x7f, 0x80, 0x81, 0xff]));
+    match random.below(4) {
+        0 => file.truncate(place),
+        1 => drop(file.remove(place)),
+        2 => file[place] = value,
+        _ => file.insert(place, value),
+    }
+    file
+}
+
+#[test]
+fn damaged_files() {
+    let mut random = Random(3);
+    let inputs: Vec<Vec<u8>> = (0..900)
+        .map(|i| {
+            let file = random.triple(TAPS[i % 9]).file();
+            damage(&mut random, file)
+        })
+        .collect();
+    assert_eq!(compare(&inputs, 5), [0, 2, 3, 4, 5, 6, 7]);
+}
+
+#[test]
+fn random_bytes() {
+    let mut random = Random(4);
+    let inputs: Vec<Vec<u8>> = (0..400)
+        .map(|_| {
+            let (length, most) = (random.below(16), random.pick(&[2, 3, 4, 10, 256]));
+            (0..length).map(|_| random.below(most) as u8).collect()
+        })
+        .collect();
+    assert_eq!(compare(&inputs, 5), [2, 3, 4, 5, 6, 7]);
+}
+
+#[test]
+fn inputs_of_4096_bytes_and_longer() {
+    let mut random = Random(5);
+    for (n, length) in pairs(&TAPS, &[4095, 4096, 4097, 5000, 10_000, 100_000]) {
+        let file = random.triple(n).file();
+        for ground in [vec![0; length], random.bytes(length)] {
+            let long = [&file, &ground[file.len()..]].concat();
+            assert_eq!(compare(&[long], 1), [7]);
+            compare(&[ground], 1);
+        }
+    }
+}
+
+// What the program prints when its input is fed so.
+fn fed(feed: fn(ChildStdin) -> Option<ChildStdin>) -> String {
+    printed(run_fed(limited(&sheet_program()), feed))
+}
+
+#[test]
+fn an_endless_input_ends() {
+    let zeros = File::open("/dev/zero").expect("a device of zeros");
+    let output = limited(&sheet_program()).stdin(zeros).output().expect("the program starts");
+    assert_eq!(printed(output), sheet(&[0; 5000]));
+    let text = fed(|mut pipe| {
+        while offer(&mut pipe, &[1; 1000]) {}
+        None
+    });
+    assert_eq!(text, sheet(&[1; 5000]));
+}
+
+#[test]
+fn a_pipe_that_stays_open_after_4096_bytes_is_not_waited_for() {
+    let text = fed(|mut pipe| {
+        offer(&mut pipe, &[2; 4096]);
+        Some(pipe)
+    });
+    assert_eq!(text, sheet(&[2; 4096]));
+}
+
+#[test]
+fn an_input_that_comes_byte_by_byte() {
+    let text = fed(|mut pipe| {
+        for byte in PRINTED_FILE {
+            offer(&mut pipe, &[byte]);
+            sleep(Duration::from_millis(10));
+        }
+        None
+    });
+    assert_eq!(text, sheet(&PRINTED_FILE));
+}
