@@ -2,6 +2,7 @@
 // Each answers what the document says, or the number of its refusal.
 pub mod filter_file; // filter_file.rs: Read, and the file of a triple
 pub mod judgement; // judgement.rs: Judge, Certify, Hand over
+pub mod named; // named.rs: filter files with names
 pub mod normal_form; // normal_form.rs: Convert, Degree
 pub mod random; // random.rs: a random generator for tests
 pub mod rank; // rank.rs: Rank
@@ -9,3 +10,4 @@ pub mod refusal; // refusal.rs: the refusals, and the checks that several operat
 pub mod samples; // samples.rs: masks, filters and files for tests
 pub mod sheet; // sheet.rs: the printed sheet
 pub mod span; // span.rs: vectors over two elements, and which of them are sums of earlier ones
+pub mod stored; // stored.rs: the files of the repository that come from here

@@ -1,0 +1,85 @@
+// Filter files with names, which the program `cases` runs on.
+use crate::filter_file::Triple;
+use crate::normal_form::weight;
+use crate::random::Random;
+use crate::rank::points_of;
+use crate::samples::LISTED_FILES;
+
+// A file with its name.
+pub struct Named {
+    pub name: String,
+    pub file: Vec<u8>,
+}
+
+// The file of the chosen points of n taps with the table, under the name.
+fn named(name: &str, n: usize, set: impl Fn(usize) -> bool, table: impl Fn(usize) -> bool) -> Named {
+    let listed = |chosen: &dyn Fn(usize) -> bool| (0..1 << n).filter(|a| chosen(*a)).collect();
+    let triple = Triple { n, set: listed(&set), table: listed(&table) };
+    Named { name: name.to_string(), file: triple.file() }
+}
+
+// The files that document 01 lists, named by their bytes.
+fn listed() -> impl Iterator<Item = Named> {
+    LISTED_FILES.into_iter().map(|(file, _)| {
+        let bytes: String = file.iter().map(|byte| format!("-{byte:02x}")).collect();
+        Named { name: format!("listed{}", if file.is_empty() { "-empty" } else { &bytes }), file: file.to_vec() }
+    })
+}
+
+// The starred cases of document 01 that are filters.
+fn starred() -> [Named; 6] {
+    [
+        named("case-5", 2, |_| true, |a| a == 3),
+        named("case-6", 3, |_| true, |a| weight(a) >= 2),
+        named("case-7", 4, |a| weight(a).is_multiple_of(2), |a| [6, 10, 12, 15].contains(&a)),
+        named("case-8", 1, |a| a == 0, |_| false),
+        named("case-9", 1, |a| a == 0, |a| a == 0),
+        named("case-10", 2, |a| a == 1 || a == 2, |a| a == 1),
+    ]
+}
+
+const SETS: [&str; 6] = ["cube", "one-weight", "weights", "subspace", "point", "some-points"];
+const TABLES: [&str; 5] = ["majority", "zero", "one", "low-degree", "random"];
+
+// Taps, kind of set and kind of table of the filters that are drawn.
+const DRAWN: [(usize, usize, usize); 24] = [
+    (1, 0, 3),
+    (1, 0, 2),
+    (2, 0, 1),
+    (2, 2, 4),
+    (3, 4, 0),
+    (3, 3, 4),
+    (4, 1, 4),
+    (4, 0, 4),
+    (5, 2, 0),
+    (5, 5, 4),
+    (6, 0, 0),
+    (6, 3, 4),
+    (6, 1, 2),
+    (7, 0, 0),
+    (7, 1, 4),
+    (7, 5, 3),
+    (7, 4, 1),
+    (8, 0, 4),
+    (8, 1, 4),
+    (8, 3, 4),
+    (8, 5, 1),
+    (9, 1, 4),
+    (9, 0, 3),
+    (9, 5, 2),
+];
+
+// A filter of each of these kinds, always the same.
+fn drawn() -> impl Iterator<Item = Named> {
+    let mut random = Random(8);
+    DRAWN.into_iter().map(move |(n, for_set, for_table)| {
+        let (set, table) = (random.set(n, for_set), random.table(n, for_table));
+        let name = format!("taps-{n}-{}-{}", SETS[for_set], TABLES[for_table]);
+        Named { name, file: Triple { n, set: points_of(&set), table: points_of(&table) }.file() }
+    })
+}
+
+// What the program `cases` runs on.
+pub fn cases() -> Vec<Named> {
+    listed().chain(starred()).chain(drawn()).collect()
+}

@@ -1,0 +1,34 @@
+// The stored files are what this implementation says today.
+use independent::stored::{FOLDERS, stored};
+use std::collections::BTreeSet;
+use std::fs;
+use std::path::{Path, PathBuf};
+
+// The root of the repository.
+fn root() -> PathBuf {
+    Path::new(env!("CARGO_MANIFEST_DIR")).join("../..")
+}
+
+#[test]
+fn every_stored_file_is_what_is_said_today() {
+    for file in stored() {
+        let found = fs::read(root().join(&file.path)).unwrap_or_default();
+        assert!(
+            found == file.content,
+            "{} is not as stored: run `cargo run --release --bin store` in tests/",
+            file.path
+        );
+    }
+}
+
+#[test]
+fn the_folders_hold_no_other_file() {
+    let known: BTreeSet<String> = stored().into_iter().map(|file| file.path).collect();
+    for folder in FOLDERS {
+        for entry in fs::read_dir(root().join(folder)).expect("the folder") {
+            let name = entry.expect("an entry").file_name();
+            let path = format!("{folder}/{}", name.to_string_lossy());
+            assert!(known.contains(&path), "{path} comes from nowhere");
+        }
+    }
+}
