@@ -1,4 +1,4 @@
-// Filter files with names, which the program `cases` runs on.
+// Filter files with names: those that the program `cases` runs on, and the examples.
 use crate::filter_file::Triple;
 use crate::normal_form::weight;
 use crate::random::Random;
@@ -16,6 +16,21 @@ fn named(name: &str, n: usize, set: impl Fn(usize) -> bool, table: impl Fn(usize
     let listed = |chosen: &dyn Fn(usize) -> bool| (0..1 << n).filter(|a| chosen(*a)).collect();
     let triple = Triple { n, set: listed(&set), table: listed(&table) };
     Named { name: name.to_string(), file: triple.file() }
+}
+
+// Tap i of the point a of n taps: x1 is the highest bit.
+fn tap(n: usize, a: usize, i: usize) -> bool {
+    a >> (n - i) & 1 == 1
+}
+
+// The sum of products of taps of the point a of n taps.
+fn sum_of_products(n: usize, a: usize, products: &[&[usize]]) -> bool {
+    products.iter().filter(|product| product.iter().all(|i| tap(n, a, *i))).count() % 2 == 1
+}
+
+// A weightwise perfectly balanced function of eight taps, the one of [CMR17] in document 000.
+pub fn perfectly_balanced(a: usize) -> bool {
+    sum_of_products(8, a, &[&[1], &[2], &[3], &[4], &[1, 5], &[2, 6], &[1, 3, 5, 7]])
 }
 
 // The files that document 01 lists, named by their bytes.
@@ -82,4 +97,25 @@ fn drawn() -> impl Iterator<Item = Named> {
 // What the program `cases` runs on.
 pub fn cases() -> Vec<Named> {
     listed().chain(starred()).chain(drawn()).collect()
+}
+
+// The examples.
+pub fn examples() -> Vec<Named> {
+    let damaged = Named { name: "damaged".to_string(), file: vec![0x02, 0x04, 0x00, 0x01, 0x01, 0x02, 0x01, 0x03] };
+    vec![
+        named("two-taps-and", 2, |_| true, |a| a == 3),
+        named("majority-of-five", 5, |_| true, |a| weight(a) >= 3),
+        named("majority-of-five-on-weight-2", 5, |a| weight(a) == 2, |a| weight(a) >= 3),
+        named("even-weights-of-four", 4, |a| weight(a).is_multiple_of(2), |a| [6, 10, 12, 15].contains(&a)),
+        named(
+            "sum-of-products-on-weight-3",
+            7,
+            |a| weight(a) == 3,
+            |a| sum_of_products(7, a, &[&[1], &[2], &[3, 4], &[5, 6, 7]]),
+        ),
+        named("balanced-on-weight-4-of-eight", 8, |a| weight(a) == 4, perfectly_balanced),
+        named("nine-taps", 9, |_| true, |a| sum_of_products(9, a, &[&[1, 2], &[3]])),
+        named("single-point", 6, |a| a == 42, |a| a == 42),
+        damaged,
+    ]
 }

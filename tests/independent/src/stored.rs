@@ -1,5 +1,6 @@
-// The files of the repository that come from this implementation: what the program `cases` reads and must print.
-use crate::named::cases;
+// The files of the repository that come from this implementation: what the program `cases` reads and must print, and the
+// examples with their sheets.
+use crate::named::{cases, examples};
 use crate::sheet::sheet;
 
 // A file: its path from the root of the repository, and what stands in it.
@@ -8,8 +9,8 @@ pub struct Stored {
     pub content: Vec<u8>,
 }
 
-// The folders in which every file is stored.
-pub const FOLDERS: [&str; 1] = ["crates/cases/data"];
+// The folders in which every file is stored, but for what is there to be read.
+pub const FOLDERS: [&str; 2] = ["crates/cases/data", "examples"];
 
 // The files of the program `cases`: its data, its arguments, and what it prints: each file's name and its sheet.
 fn of_cases() -> Vec<Stored> {
@@ -24,7 +25,16 @@ fn of_cases() -> Vec<Stored> {
     files
 }
 
+// Each example and its sheet.
+fn of_examples() -> impl Iterator<Item = Stored> {
+    examples().into_iter().flat_map(|example| {
+        let path = |ending: &str| format!("examples/{}.{ending}", example.name);
+        let sheet = sheet(&example.file).into_bytes();
+        [Stored { path: path("sheet"), content: sheet }, Stored { path: path("filter"), content: example.file }]
+    })
+}
+
 // All of them.
 pub fn stored() -> Vec<Stored> {
-    of_cases()
+    of_cases().into_iter().chain(of_examples()).collect()
 }

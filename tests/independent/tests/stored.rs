@@ -21,13 +21,18 @@ fn every_stored_file_is_what_is_said_today() {
     }
 }
 
+// The names of the files of the folder that are no text for readers.
+fn names(folder: &str) -> Vec<String> {
+    let entries = fs::read_dir(root().join(folder)).expect("the folder").map(|entry| entry.expect("an entry"));
+    let files = entries.filter(|entry| entry.path().is_file()).map(|entry| entry.file_name().into_string());
+    files.map(|name| name.expect("a name")).filter(|name| !name.ends_with(".md")).collect()
+}
+
 #[test]
 fn the_folders_hold_no_other_file() {
     let known: BTreeSet<String> = stored().into_iter().map(|file| file.path).collect();
     for folder in FOLDERS {
-        for entry in fs::read_dir(root().join(folder)).expect("the folder") {
-            let name = entry.expect("an entry").file_name();
-            let path = format!("{folder}/{}", name.to_string_lossy());
+        for path in names(folder).iter().map(|name| format!("{folder}/{name}")) {
             assert!(known.contains(&path), "{path} comes from nowhere");
         }
     }
