@@ -1,0 +1,56 @@
+/* Reads a filter file, judges it, and prints the degree and the side: judge FILE */
+#include <ekthavrul.h>
+#include <stdio.h>
+
+enum { ROOM = 4096, FAILURE = 1, USAGE = 2 };
+
+/* Prints the refusal. */
+static int refused(uint8_t status) {
+    printf("refused %d\n", status);
+    return 0;
+}
+
+/* Prints the degree and the side of the filter. */
+static int judge(const uint8_t *set, const uint8_t *table, size_t n) {
+    static uint64_t workspace[EKTHAVRUL_WORKSPACE];
+    uint8_t one[EKTHAVRUL_POINTS], zero[EKTHAVRUL_POINTS], side;
+    uint16_t ranks[EKTHAVRUL_RANKS];
+    size_t degree;
+    uint32_t additions;
+    uint8_t status = ekthavrul_judge(set, EKTHAVRUL_POINTS, table, EKTHAVRUL_POINTS, n, workspace, EKTHAVRUL_WORKSPACE,
+                                     one, sizeof one, zero, sizeof zero, ranks, &degree, &side, &additions);
+    if (status != EKTHAVRUL_ACCEPTED)
+        return refused(status);
+    printf("degree %zu side %d\n", degree, side);
+    return 0;
+}
+
+/* Reads the filter from the first bytes of the file, and judges it. */
+static int judge_file(FILE *file) {
+    uint8_t bytes[ROOM], set[EKTHAVRUL_POINTS], table[EKTHAVRUL_POINTS];
+    size_t n, length = fread(bytes, 1, sizeof bytes, file);
+    if (ferror(file)) {
+        perror("judge");
+        return FAILURE;
+    }
+    uint8_t status = ekthavrul_read(bytes, length, set, sizeof set, table, sizeof table, &n);
+    if (status != EKTHAVRUL_ACCEPTED)
+        return refused(status);
+    return judge(set, table, n);
+}
+
+/* Judges the file that the one word names. */
+int main(int count, char **words) {
+    if (count != 2) {
+        fputs("usage: judge FILE\n", stderr);
+        return USAGE;
+    }
+    FILE *file = fopen(words[1], "rb");
+    if (file == NULL) {
+        perror(words[1]);
+        return FAILURE;
+    }
+    int result = judge_file(file);
+    fclose(file);
+    return result;
+}

@@ -1,0 +1,119 @@
+/*
+ * The proved operations for C: link libexports.a, which `rt staticlib exports` writes to target/staticlib/.
+ *
+ * n is the number of taps. A point is a number below 2 to the power n, read in base 2 as x1 (highest bit) to xn.
+ * A mask is EKTHAVRUL_POINTS bytes: byte a is 0 or 1 for a point a, and 0 past the last point. A set, a table and the
+ * coefficients of a polynomial are masks; those of a polynomial are numbered by exponents.
+ *
+ * A slice is a pointer and its length in elements; the pointer is never null, and slices that are written to overlap
+ * with nothing else that is lent. Every length may be passed: a wrong one is refused. Every other pointer is to one
+ * object, or to an array of the length that stands in its declaration.
+ *
+ * Each operation but Hand over answers a status: EKTHAVRUL_ACCEPTED, or the number of the first refusal in the order in
+ * which they are listed. A refusal leaves all that is lent as it was; RANKS_DIFFER alone clears the workspace. An
+ * accepted operation leaves the workspace all zero; what stands in it before does not matter.
+ */
+#ifndef EKTHAVRUL_H
+#define EKTHAVRUL_H
+
+#include <stddef.h>
+#include <stdint.h>
+
+#ifdef __cplusplus
+extern "C" {
+#endif
+
+/* Sizes: the taps at most, and the lengths of the buffers in elements. */
+enum {
+    EKTHAVRUL_TAPS_MAX = 9,
+    EKTHAVRUL_POINTS = 512,       /* a mask or a witness, in bytes */
+    EKTHAVRUL_WORKSPACE = 8192,   /* a workspace, in numbers of 64 bits */
+    EKTHAVRUL_CERTIFICATE = 4096, /* a certificate, in numbers of 64 bits */
+    EKTHAVRUL_ROW_WORDS = 8,      /* a point's row of a certificate, in numbers of 64 bits */
+    EKTHAVRUL_RANKS = 30,         /* the ranks of Judge: three for each degree from 0 to 9 */
+    EKTHAVRUL_FILE_MAX = 2053     /* no filter file that is read is longer, in bytes */
+};
+
+/* What an operation answers. */
+enum {
+    EKTHAVRUL_ACCEPTED = 0,
+    EKTHAVRUL_LENGTH = 1,          /* a buffer has the wrong length */
+    EKTHAVRUL_FILE_ENDS = 2,       /* the file ends before or inside a number */
+    EKTHAVRUL_NUMBER_FORM = 3,     /* a number is not in its shortest form, or has more than two groups */
+    EKTHAVRUL_TAPS = 4,            /* n is not from 1 to 9 */
+    EKTHAVRUL_RANGE = 5,           /* a count over 2^n, a difference of 0, or a point of 2^n or more */
+    EKTHAVRUL_EMPTY_SET = 6,       /* the set has no point */
+    EKTHAVRUL_SURPLUS = 7,         /* bytes remain after the file's last number */
+    EKTHAVRUL_BYTES = 8,           /* a byte of a mask is not 0 or 1, or not 0 past the last point */
+    EKTHAVRUL_ZERO_POLYNOMIAL = 9, /* the zero polynomial has no degree */
+    EKTHAVRUL_DEGREE = 10,         /* the degree d is over n */
+    EKTHAVRUL_SIDE = 11,           /* the side is neither 0 nor 1 */
+    EKTHAVRUL_RANKS_DIFFER = 12    /* at d the part's rank is not that of the set */
+};
+
+/*
+ * Read: what a filter file says. `*n` becomes the number of taps, `set` the mask of the set S, and `table` that of the
+ * points where f is 1.
+ * Refusals: LENGTH (set, table), then number by number FILE_ENDS, NUMBER_FORM and its own rule, TAPS, RANGE or
+ * EMPTY_SET; last SURPLUS.
+ */
+uint8_t ekthavrul_read(const uint8_t *file, size_t file_length, uint8_t *set, size_t set_length, uint8_t *table,
+                       size_t table_length, size_t *n);
+
+/*
+ * Convert: the table of a polynomial's values becomes its coefficients, and coefficients become the table.
+ * Refusals: LENGTH, TAPS, BYTES.
+ */
+uint8_t ekthavrul_convert(uint8_t *bytes, size_t length, size_t n);
+
+/*
+ * Degree: `*degree` becomes the degree of the polynomial with these coefficients, which stay as they are.
+ * Refusals: LENGTH, TAPS, BYTES, ZERO_POLYNOMIAL.
+ */
+uint8_t ekthavrul_degree(const uint8_t *coefficients, size_t length, size_t n, uint32_t *degree);
+
+/*
+ * Rank: `*rank` becomes the rank of the rows of the mask's points at degree d, and `*additions` the count of additions
+ * of rows.
+ * Refusals: LENGTH (mask, workspace), TAPS, BYTES, DEGREE.
+ */
+uint8_t ekthavrul_rank(const uint8_t *mask, size_t mask_length, size_t n, size_t d, uint64_t *workspace,
+                       size_t workspace_length, size_t *rank, uint32_t *additions);
+
+/*
+ * Judge: the restricted immunity of the filter. For each degree d up to n, ranks[3 * d] becomes the rank of S,
+ * ranks[3 * d + 1] that of part 1 and ranks[3 * d + 2] that of part 0; the ranks past n become 0. `*degree` becomes the
+ * first d at which a part's rank is not that of S; `*side` is 1 if part 1 differs there, else 0; `*additions` is the
+ * count over all eliminations. `one` and `zero` become the coefficients of the witness of their side, a polynomial of
+ * that degree that is zero on the part and not on all of S, or zeros if the side does not differ at that degree.
+ * Refusals: LENGTH (set, table, workspace, one, zero), TAPS, BYTES (set, then table), EMPTY_SET.
+ */
+uint8_t ekthavrul_judge(const uint8_t *set, size_t set_length, const uint8_t *table, size_t table_length, size_t n,
+                        uint64_t *workspace, size_t workspace_length, uint8_t *one, size_t one_length, uint8_t *zero,
+                        size_t zero_length, uint16_t ranks[EKTHAVRUL_RANKS], size_t *degree, uint8_t *side,
+                        uint32_t *additions);
+
+/*
+ * Certify: why no polynomial up to degree d cancels the side: for each point a of S outside the side's part, bit
+ * q % 64 of certificate[8 * a + q / 64] becomes 1 exactly for the kept points q of the part whose rows at degree d sum
+ * to the row of a. All other bits become 0.
+ * Refusals: LENGTH (set, table, workspace, certificate), TAPS, BYTES (set, then table), EMPTY_SET, DEGREE, SIDE,
+ * RANKS_DIFFER.
+ */
+uint8_t ekthavrul_certify(const uint8_t *set, size_t set_length, const uint8_t *table, size_t table_length, size_t n,
+                          uint8_t side, size_t d, uint64_t *workspace, size_t workspace_length, uint64_t *certificate,
+                          size_t certificate_length);
+
+/*
+ * Hand over: answers the length of the side's part of the two witness buffers, which is 2^n: the coefficients of the
+ * exponents below 2^n. The part is copied to the front of `copy`, as many bytes as there is room for.
+ * Its only refusal is the length 0, with `copy` as it was: n, the side or the length of a buffer is wrong.
+ */
+size_t ekthavrul_hand_over(size_t n, uint8_t side, const uint8_t *one, size_t one_length, const uint8_t *zero,
+                           size_t zero_length, uint8_t *copy, size_t copy_length);
+
+#ifdef __cplusplus
+}
+#endif
+
+#endif

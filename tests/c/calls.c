@@ -1,0 +1,109 @@
+/* Calls every function of the header with the starred cases of document 01, and once so that it refuses. */
+#include <ekthavrul.h>
+#include <stdio.h>
+#include <string.h>
+
+enum { POINTS = EKTHAVRUL_POINTS };
+
+static uint64_t workspace[EKTHAVRUL_WORKSPACE], certificate[EKTHAVRUL_CERTIFICATE];
+static uint8_t set[POINTS], table[POINTS], one[POINTS], zero[POINTS];
+static int faults;
+
+/* Counts a fault, and says which, unless the condition holds. */
+static void expect(int condition, const char *what) {
+    if (!condition) {
+        printf("wrong: %s\n", what);
+        faults++;
+    }
+}
+
+/* The mask becomes 1 at the points of the list, which ends in -1, and 0 elsewhere. */
+static void mark(uint8_t *mask, const int *points) {
+    memset(mask, 0, POINTS);
+    for (; *points >= 0; points++)
+        mask[*points] = 1;
+}
+
+/* Read of the file of the printed sheet leaves its filter in the set and the table. */
+static void check_read(void) {
+    const uint8_t file[] = {0x02, 0x04, 0x00, 0x01, 0x01, 0x01, 0x01, 0x03};
+    size_t n = 77;
+    expect(ekthavrul_read(file, 7, set, POINTS, table, POINTS, &n) == EKTHAVRUL_FILE_ENDS && n == 77, "Read refuses");
+    expect(ekthavrul_read(file, sizeof file, set, POINTS, table, POINTS, &n) == 0 && n == 2, "Read accepts");
+    expect(set[0] && set[1] && set[2] && set[3] && !set[4], "the set read");
+    expect(!table[0] && !table[2] && table[3] && !table[4], "the table read");
+}
+
+/* Convert and Degree: cases 1 and 3. */
+static void check_normal_form(void) {
+    uint8_t bytes[POINTS], wanted[POINTS];
+    uint32_t degree = 77;
+    mark(bytes, (int[]){7, -1});
+    mark(wanted, (int[]){7, -1});
+    expect(ekthavrul_convert(bytes, POINTS, 3) == 0 && memcmp(bytes, wanted, POINTS) == 0, "Convert, case 1");
+    expect(ekthavrul_degree(bytes, POINTS, 3, &degree) == 0 && degree == 3, "Degree, case 1");
+    expect(ekthavrul_convert(bytes, POINTS - 1, 3) == EKTHAVRUL_LENGTH, "Convert refuses a length");
+    mark(bytes, (int[]){-1});
+    expect(ekthavrul_degree(bytes, POINTS, 1, &degree) == EKTHAVRUL_ZERO_POLYNOMIAL && degree == 3, "Degree, case 3");
+}
+
+/* Rank: case 4, and the set of case 5 at degree 1. */
+static void check_rank(void) {
+    uint8_t none[POINTS] = {0};
+    size_t rank = 77;
+    uint32_t additions = 77;
+    expect(ekthavrul_rank(none, POINTS, 2, 1, workspace, EKTHAVRUL_WORKSPACE, &rank, &additions) == 0, "Rank, case 4");
+    expect(rank == 0 && additions == 0, "the rank of no points");
+    expect(ekthavrul_rank(set, POINTS, 2, 1, workspace, EKTHAVRUL_WORKSPACE, &rank, &additions) == 0 && rank == 3,
+           "Rank, case 5");
+    expect(ekthavrul_rank(set, POINTS, 2, 3, workspace, EKTHAVRUL_WORKSPACE, &rank, &additions) == EKTHAVRUL_DEGREE,
+           "Rank refuses a degree");
+}
+
+/* Judge of the filter of n taps; its status. */
+static uint8_t judge(size_t n, uint16_t *ranks, size_t *degree, uint8_t *side, uint32_t *additions) {
+    return ekthavrul_judge(set, POINTS, table, POINTS, n, workspace, EKTHAVRUL_WORKSPACE, one, POINTS, zero, POINTS,
+                           ranks, degree, side, additions);
+}
+
+/* Judge and Hand over: case 5. */
+static void check_judge(void) {
+    const uint16_t wanted[] = {1, 1, 1, 3, 1, 3, 4, 1, 3};
+    uint16_t ranks[EKTHAVRUL_RANKS];
+    uint8_t side = 77, copy[4] = {0};
+    size_t degree = 77;
+    uint32_t additions = 77;
+    expect(judge(10, ranks, &degree, &side, &additions) == EKTHAVRUL_TAPS && degree == 77, "Judge refuses taps");
+    expect(judge(2, ranks, &degree, &side, &additions) == 0, "Judge, case 5");
+    expect(degree == 1 && side == 1 && additions == 19, "what Judge answers");
+    expect(memcmp(ranks, wanted, sizeof wanted) == 0 && ranks[29] == 0, "the ranks");
+    expect(ekthavrul_hand_over(2, 1, one, POINTS, zero, POINTS, copy, sizeof copy) == 4, "Hand over");
+    expect(copy[0] == 1 && copy[1] == 1 && copy[2] == 0 && copy[3] == 0, "the witness handed over");
+    expect(ekthavrul_hand_over(2, 2, one, POINTS, zero, POINTS, copy, sizeof copy) == 0, "Hand over refuses a side");
+}
+
+/* Certify of the filter of two taps at the side and the degree; its status. */
+static uint8_t certify(uint8_t side, size_t d) {
+    return ekthavrul_certify(set, POINTS, table, POINTS, 2, side, d, workspace, EKTHAVRUL_WORKSPACE, certificate,
+                             EKTHAVRUL_CERTIFICATE);
+}
+
+/* Certify: case 5 at degree 0, and where the ranks differ. */
+static void check_certify(void) {
+    expect(certify(1, 0) == 0, "Certify, case 5, side 1");
+    expect(certificate[0] == 8 && certificate[EKTHAVRUL_ROW_WORDS] == 8 && certificate[2 * EKTHAVRUL_ROW_WORDS] == 8 &&
+               certificate[3 * EKTHAVRUL_ROW_WORDS] == 0,
+           "the sums of side 1");
+    expect(certify(0, 0) == 0 && certificate[0] == 0 && certificate[3 * EKTHAVRUL_ROW_WORDS] == 1, "side 0");
+    expect(certify(1, 1) == EKTHAVRUL_RANKS_DIFFER, "Certify refuses where the ranks differ");
+}
+
+/* Makes every check; the status is 0 if there was no fault. */
+int main(void) {
+    check_read();
+    check_normal_form();
+    check_rank();
+    check_judge();
+    check_certify();
+    return faults != 0;
+}
