@@ -1,4 +1,5 @@
-// Times the proved static library against the same algorithms in Rust and C at -O3, and against M4RI, in one run.
+// Times the proved static library and the sheet program against the independent implementation, against the same
+// algorithms in Rust and C at -O3, and against M4RI, in one run.
 #[cfg_attr(not(has_c), path = "no_c.rs")]
 mod c; // c.rs: the contenders in C
 mod certify; // certify.rs: Certify in Rust
@@ -7,17 +8,19 @@ mod elimination; // elimination.rs: the eliminations in Rust
 mod judge; // judge.rs: Judge in Rust
 #[cfg_attr(not(has_m4ri), path = "no_m4ri.rs")]
 mod m4ri; // m4ri.rs: the ranks by M4RI
+mod operations; // operations.rs: the operations on one filter, and their times
 mod timing; // timing.rs: several contenders timed in one run
 
 use contenders::{certifies, judges, m4ri_steps, ranks};
-use independent::filter_file::Triple;
 use independent::judgement::Filter;
 use independent::normal_form::weight;
 use independent::random::Random;
 use independent::samples::{mask_of, pairs};
-use timing::{Contender, line, race};
+use operations::{NAMES, Subject, process_start};
+use timing::{line, race};
 
 const RUNS: usize = 120;
+const FEW: usize = 10; // of the independent implementation, which is slow
 
 // The heads of the columns of times: the contenders that there are.
 fn heads(m4ri: bool) -> String {
@@ -68,13 +71,35 @@ fn compare_judges() {
     println!("Judge of {} filters of one to nine taps: every contender gives the proved answer", kinds.len());
 }
 
-// Read of the largest file: nine taps, both lists full.
-fn bench_read() {
-    let all: Vec<usize> = (0..512).collect();
-    let file = Triple { n: 9, set: all.clone(), table: all }.file();
-    let read: Contender<_> = Box::new(|_| library::read(&file, &mut [0; 512], &mut [0; 512]));
-    let (_, times) = race(RUNS * 10, &[read]);
-    println!("Read, n = 9, both lists full: {:.2} microseconds", times[0]);
+// Every operation on a filter of nine taps, proved and independent.
+fn bench_operations(title: &str, set: &[u8], table: &[u8]) {
+    let subject = Subject::new(9, set.to_vec(), table.to_vec());
+    println!("Every operation and the independent implementation's, n = 9, {title}; microseconds, least of {FEW} runs");
+    println!("           proved     other  ratio");
+    for (name, times) in NAMES.iter().zip(subject.times(FEW, 2)) {
+        println!("{name:7}{}", line(&times));
+    }
+    println!("The sheet is a process; one without input takes {:.1}", process_start(RUNS));
+}
+
+// The proved operations on each of the filters, a line each.
+fn bench_growth(title: &str, filters: impl Iterator<Item = (usize, Vec<u8>, Vec<u8>)>) {
+    println!("Growth with {title}; the proved operations, microseconds, least of {RUNS} runs");
+    println!(" n points degree additions{}", NAMES.map(|name| format!("{name:>10}")).concat());
+    for (n, set, table) in filters {
+        let subject = Subject::new(n, set, table);
+        let (points, found) = (subject.points(), &subject.judgement);
+        let times = subject.times(RUNS, 1).map(|times| line(&times)).concat();
+        println!("{n:2} {points:6} {:6} {:9}{times}", found.degree, found.additions);
+    }
+}
+
+// The first of the points in an order drawn at random, so many of them.
+fn some_points(count: usize) -> Vec<u8> {
+    let mut random = Random(3);
+    let mut points: Vec<(u64, usize)> = (0..512).map(|a| (random.number(), a)).collect();
+    points.sort();
+    mask_of(9, |a| points[..count].iter().any(|(_, point)| *point == a))
 }
 
 // Prints every comparison.
@@ -86,11 +111,16 @@ fn main() {
         println!("no M4RI (Debian's libm4ri-dev): the comparison with it is skipped");
     }
     let (all, half) = (mask_of(9, |_| true), Random(1).mask(9, 4));
-    println!("proved: the static library; Rust and C: the same algorithms at -O3");
+    println!(
+        "proved: the static library; Rust and C: the same algorithms at -O3; ratio: the proved time over the other"
+    );
     compare_judges();
     bench_rank("all 512 points", &all);
     bench_rank("a random half", &half);
     bench_judgement("all 512 points, a random table", &all, &half);
     bench_judgement("the 126 points of weight 4, a random table", &mask_of(9, |a| weight(a) == 4), &half);
-    bench_read();
+    bench_operations("all 512 points, a random table", &all, &half);
+    bench_growth("n: all points, majority", (1..=9).map(|n| (n, mask_of(n, |_| true), Random(1).table(n, 0))));
+    let sizes = [16, 32, 64, 128, 192, 256, 320, 384, 448, 512];
+    bench_growth("the set: points and a table at random", sizes.map(|m| (9, some_points(m), half.clone())).into_iter());
 }

@@ -1,0 +1,122 @@
+// The operations on one filter, proved and by the independent implementation, each timed.
+use crate::contenders::Certify;
+use crate::timing::{Contender, race};
+use independent::filter_file::{Triple, read};
+use independent::judgement::{Filter, Judgement, certify, judge};
+use independent::normal_form::convert;
+use independent::rank::{Ranking, points_of, rank};
+use independent::sheet::sheet;
+use program::{printed, run, sheet_program};
+use std::fmt::Debug;
+use std::process::Command;
+
+type Read = fn(&[u8], &mut [u8], &mut [u8]) -> Result<usize, u8>;
+type Convert = fn(&mut [u8], usize) -> Result<(), u8>;
+type Rank = fn(&[u8], usize, usize, &mut [u64]) -> Result<Ranking, u8>;
+type Judge = fn(Filter, &mut [u64], &mut [u8], &mut [u8]) -> Result<Judgement, u8>;
+type Sheet = fn(&[u8]) -> String;
+
+// The names of the operations that are timed, in order.
+pub const NAMES: [&str; 6] = ["Read", "Convert", "Rank", "Judge", "Certify", "sheet"];
+
+// A filter, its file and what Judge answers.
+pub struct Subject {
+    n: usize,
+    set: Vec<u8>,
+    table: Vec<u8>,
+    file: Vec<u8>,
+    pub judgement: Judgement,
+}
+
+// What the sheet program prints for the input, in a process of its own.
+fn run_sheet(input: &[u8]) -> String {
+    printed(run(Command::new(sheet_program()), input))
+}
+
+// The least microseconds of a process of the sheet program that is given no input.
+pub fn process_start(runs: usize) -> f64 {
+    let start: Contender<String> = Box::new(|_| run_sheet(&[]));
+    race(runs, &[start]).1[0]
+}
+
+// The least microseconds of the first of the two, or of both, which answer alike.
+fn timed<A: PartialEq + Debug>(runs: usize, count: usize, both: [impl Fn(&mut [u64]) -> A; 2]) -> Vec<f64> {
+    let contenders: Vec<Contender<A>> = both.into_iter().take(count).map(|one| Box::new(one) as Contender<A>).collect();
+    race(runs, &contenders).1
+}
+
+impl Subject {
+    // The filter of these masks.
+    pub fn new(n: usize, set: Vec<u8>, table: Vec<u8>) -> Subject {
+        let file = Triple { n, set: points_of(&set), table: points_of(&table) }.file();
+        let filter = Filter { n, set: &set, table: &table };
+        let judged = library::judge(filter, &mut [0; 8192], &mut [0; 512], &mut [0; 512]);
+        let judgement = judged.expect("a filter that Judge accepts");
+        Subject { n, set, table, file, judgement }
+    }
+
+    // The number of points.
+    pub fn points(&self) -> usize {
+        points_of(&self.set).len()
+    }
+
+    // The filter as it is lent.
+    fn filter(&self) -> Filter<'_> {
+        Filter { n: self.n, set: &self.set, table: &self.table }
+    }
+
+    // Read of the file.
+    fn read(&self, read: Read) -> impl Fn(&mut [u64]) -> [[u8; 512]; 2] {
+        move |_| {
+            let (mut set, mut table) = ([0; 512], [0; 512]);
+            read(&self.file, &mut set, &mut table).expect("accepted");
+            [set, table]
+        }
+    }
+
+    // Convert of the table.
+    fn convert(&self, convert: Convert) -> impl Fn(&mut [u64]) -> Vec<u8> {
+        move |_| {
+            let mut bytes = self.table.clone();
+            convert(&mut bytes, self.n).expect("accepted");
+            bytes
+        }
+    }
+
+    // Rank of the set at degree n.
+    fn rank(&self, rank: Rank) -> impl Fn(&mut [u64]) -> Ranking {
+        move |workspace| rank(&self.set, self.n, self.n, workspace).expect("accepted")
+    }
+
+    // Judge.
+    fn judge(&self, judge: Judge) -> impl Fn(&mut [u64]) -> Judgement {
+        move |workspace| judge(self.filter(), workspace, &mut [0; 512], &mut [0; 512]).expect("accepted")
+    }
+
+    // Certify of side 1 at the degree before the reported one.
+    fn certify(&self, certify: Certify) -> impl Fn(&mut [u64]) -> Vec<u64> {
+        move |workspace| {
+            let mut certificate = vec![0; 4096];
+            certify(self.filter(), 1, self.judgement.degree - 1, workspace, &mut certificate).expect("accepted");
+            certificate
+        }
+    }
+
+    // The sheet of the file.
+    fn sheet(&self, sheet: Sheet) -> impl Fn(&mut [u64]) -> String {
+        move |_| sheet(&self.file)
+    }
+
+    // The least microseconds of each operation: of the proved one if the count is 1, and of the independent one besides
+    // if it is 2.
+    pub fn times(&self, runs: usize, count: usize) -> [Vec<f64>; 6] {
+        [
+            timed(runs, count, [self.read(library::read), self.read(read)]),
+            timed(runs, count, [self.convert(library::convert), self.convert(convert)]),
+            timed(runs, count, [self.rank(library::rank), self.rank(rank)]),
+            timed(runs, count, [self.judge(library::judge), self.judge(judge)]),
+            timed(runs, count, [self.certify(library::certify), self.certify(certify)]),
+            timed(runs, count, [self.sheet(run_sheet), self.sheet(sheet)]),
+        ]
+    }
+}
