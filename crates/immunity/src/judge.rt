@@ -293,8 +293,8 @@ fn first_difference(ranks: [Ranks; 10], n: usize) -> usize
 }
 
 // The side of the reported degree: 1 if the rank of part 1 is not that of the set, else 0.
-fn side_of(r: Ranks) -> u8
-    ensures { λ s. ⌜ s ≡ byte (not (eqb (r .set) (r .one))) ⌝ }
+fn side_of(here: Ranks) -> u8
+    ensures { λ s. ⌜ s ≡ byte (not (eqb (here .set) (here .one))) ⌝ }
 {
-    if r.set != r.one { 1 } else { 0 }
+    if here.set != here.one { 1 } else { 0 }
 }

@@ -1,7 +1,7 @@
 // Restricted algebraic immunity: document 01, 'Judgement', and the demands on the whole.
-pub mod part; // part.rt: the parts of a set
-pub mod witness; // witness.rt: the witness of a side
+mod part; // part.rt: the parts of a set
+mod witness; // witness.rt: the witness of a side
 pub mod judge; // judge.rt: Judge
-pub mod combination; // combination.rt: the points whose rows sum to a row, in the workspace
+mod combination; // combination.rt: the points whose rows sum to a row, in the workspace
 pub mod certify; // certify.rt: Certify
 pub mod hand_over; // hand_over.rt: Hand over, the part of a buffer that holds a witness
