@@ -35,14 +35,14 @@ pub fn reduce_tallied(ws: &mut [u64], pivots: &[u16], tally: &mut [u32], kept: u
     requires { ⌜ (length (now ws) ≡ 8192) × (length (now pivots) ≡ 512) × (length (now tally) ≡ 512) × (kept ≤ 512) × (kept ≤ row) × (row < 1024) × Pivots (now pivots) (unpacked (now ws)) kept × AtMost 262144 (now tally) ⌝ }
     ensures { λ _. ⌜ Tallies kept row (unpacked (now (ws .entry))) (unpacked (now (ws .exit))) (now (tally .entry)) (now (tally .exit)) ⌝ }
 {
-    let mut j: usize = 0;
-    while j < kept {
-        let c = pivots[j] as usize;
-        if entry(ws, row, c) {
-            add_row(ws, row, j);
-            tally[c] += 1;
+    let mut k: usize = 0;
+    while k < kept {
+        let column = pivots[k] as usize;
+        if entry(ws, row, column) {
+            add_row(ws, row, k);
+            tally[column] += 1;
         }
-        j += 1;
+        k += 1;
     }
 }
 
@@ -89,15 +89,15 @@ pub fn count_below(pivots: &[u16], kept: usize, columns: usize) -> usize
     requires { ⌜ (length (now pivots) ≡ 512) × (kept ≤ 512) ⌝ }
     ensures { λ r. ⌜ (r ≡ countTo columns (take kept (now (pivots .entry)))) × (r ≤ kept) ⌝ }
 {
-    let mut count: usize = 0;
+    let mut below: usize = 0;
     let mut j: usize = 0;
     while j < kept {
         if (pivots[j] as usize) < columns {
-            count += 1;
+            below += 1;
         }
         j += 1;
     }
-    count
+    below
 }
 
 // The sum of the first `columns` numbers of `tally`.

@@ -33,16 +33,16 @@ loop-holds c =
     let ws = s .args .ws .now in
     (omega arith, s .pre .0, s .pre .2, tallies-none (unpacked ws) (s .args .row) 512 (long ws (s .pre .0)) (s .args .tally .now))
 
-cast-c : tie.Need-cast-c Inv-loop μ-loop
-cast-c c =
+cast-column : tie.Need-cast-column Inv-loop μ-loop
+cast-column c =
     let l = c .before .before in
-    omega (arith, l .before .before .before .before .pre .6 (l .loop .j) (omega arith) .1)
+    omega (arith, l .before .before .before .before .pre .6 (l .loop .k) (omega arith) .1)
 
 entry-requires : tie.Need-entry-requires Inv-loop μ-loop
 entry-requires c κs =
     let l = c .before .before .before in
     let s = l .before .before .before .before in
-    (l .loop .inv .1, s .pre .5, s .pre .6 (l .loop .j) (omega arith) .1)
+    (l .loop .inv .1, s .pre .5, s .pre .6 (l .loop .k) (omega arith) .1)
 
 add-row-requires : tie.Need-add-row-requires Inv-loop μ-loop
 add-row-requires c κs =
@@ -53,24 +53,24 @@ add-row-requires c κs =
 mul-tally : tie.Need-mul-tally Inv-loop μ-loop
 mul-tally c =
     let l = c .before .before .before .before .before .before .before .before .before in
-    omega (arith, l .before .before .before .before .pre .6 (l .loop .j) (omega arith) .1)
+    omega (arith, l .before .before .before .before .pre .6 (l .loop .k) (omega arith) .1)
 
 slice-read-tally : tie.Need-slice-read-tally Inv-loop μ-loop
 slice-read-tally c =
     let l = c .before .before .before .before .before .before .before .before .before .before in
-    omega (arith, l .loop .inv .2, l .before .before .before .before .pre .6 (l .loop .j) (omega arith) .1)
+    omega (arith, l .loop .inv .2, l .before .before .before .before .pre .6 (l .loop .k) (omega arith) .1)
 
 add-tally : tie.Need-add-tally Inv-loop μ-loop
 add-tally c =
     let l = c .before .before .before .before .before .before .before .before .before .before in
     let s = l .before .before .before .before in
-    let p = getD (s .args .pivots .now) (l .loop .j) 0 in
+    let p = getD (s .args .pivots .now) (l .loop .k) 0 in
     omega (arith, l .loop .inv .3 .few p, s .pre .7 p)
 
 slice-write-tally : tie.Need-slice-write-tally Inv-loop μ-loop
 slice-write-tally c =
     let l = c .before .before .before .before .before .before .before .before .before .before in
-    omega (arith, l .loop .inv .2, l .before .before .before .before .pre .6 (l .loop .j) (omega arith) .1)
+    omega (arith, l .loop .inv .2, l .before .before .before .before .pre .6 (l .loop .k) (omega arith) .1)
 
 loop-again : tie.Need-loop-again Inv-loop μ-loop
 unfolding addIf
@@ -80,7 +80,7 @@ loop-again c =
     let ws₀ = s .args .ws .now in
     let t₀ = unpacked ws₀ in
     let row = s .args .row in
-    let j = l .loop .j in
+    let j = l .loop .k in
     let t = unpacked (l .loop .ws) in
     let i = l .loop .inv in
     let h : j < row = omega arith in
@@ -112,7 +112,7 @@ returns : tie.Need-returns Inv-loop μ-loop
 returns c =
     let l = c .before in
     let s = l .before .before .before .before in
-    let e : l .loop .j ≡ s .args .kept = omega arith in
+    let e : l .loop .k ≡ s .args .kept = omega arith in
     subst (λ k. Tallies k (s .args .row) (unpacked (s .args .ws .now)) (unpacked (l .loop .ws)) (s .args .tally .now) (l .loop .tally)) e (l .loop .inv .3)
 
 pub reduce-tallied-spec : {M : Type 1} → statement M
@@ -124,7 +124,7 @@ reduce-tallied-spec =
     loop-holds
     (λ c. omega arith)
     (λ c. omega arith)
-    cast-c
+    cast-column
     entry-requires
     add-row-requires
     mul-tally
