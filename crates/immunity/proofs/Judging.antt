@@ -1,15 +1,18 @@
 -- What Judge answers and leaves.
 --   ranks-judged      ranks found over the points of masks are those of the judgement
 --   first-reported    the first degree at which they differ is the reported one
+--   one-none          where the ranks of the set and of part 1 are equal, part 1 has no new point
+--   zero-none         the same of part 0
 --   judgement-found   what is found is the judgement
 --   refuses           a broken check
 --   accepts           no check is broken
 use mathlib.Core.Path.{_≡_, sym, ap, ap₂, _∙_}
 use mathlib.Core.Bool.{Bool, false, not}
-use mathlib.Core.List.{List, map}
-use mathlib.Core.Option.{Option, some}
+use mathlib.Core.List.{List, map, List·Memᴰ}
+use mathlib.Core.Option.{Option, none, some}
 use Prim.Native.Nat.{ℕ, _+_, _≤_, _<_}
 use native.Mathlib.Omega.{arith}
+use borrow.Author.Tests.{le-leb}
 use lib.Dec.{eqb}
 use lib.ListN.{length, getD, replicate}
 use Rattle.refusal.specs.Refusal.{numberOf}
@@ -19,21 +22,24 @@ use Rattle.cube.specs.Numbers.{below}
 use Rattle.cube.specs.Mask.{points, byte, mask}
 use Rattle.cube.specs.BuiltIn.{graded}
 use Rattle.cube.proofs.BuiltIn.{graded-is-graded}
-use Rattle.cube.proofs.Masks.{member-from, points-inside}
+use Rattle.cube.proofs.Masks.{member-from, value-at, points-inside}
 use Rattle.cube.proofs.Taps.{taps-range}
 use Rattle.gf2.specs.Packed.{zeros}
+use Rattle.gf2.specs.Points.{Rising}
+use Rattle.gf2.specs.Vector.{Each}
 use Rattle.gf2.proofs.Each.{member-each}
 use Rattle.immunity.specs.declared.judge.Ranks.{Ranks}
 use Rattle.immunity.specs.declared.judge.JudgeAnswer.{JudgeAnswer}
 use Rattle.immunity.specs.declared.judge.Finding.the-variants.{Refused, Judged}
 use Rattle.immunity.specs.Part.{part}
 use Rattle.immunity.specs.First.{first}
-use Rattle.immunity.specs.Witness.{witnessAt}
-use Rattle.immunity.specs.Judgement.{Judgement, noRanks, differs, eitherDiffers, reported, ranksAt, sideAt, additionsAt, summed, witnessBytes, judged}
+use Rattle.immunity.specs.Witness.{newPoint, witnessAt}
+use Rattle.immunity.specs.Judgement.{Judgement, noRanks, ranksIf, differs, eitherDiffers, reported, ranksAt, sideAt, additionsAt, summed, witnessBytes, judged}
 use Rattle.immunity.specs.Judge.{judgeChecks, judgeOutcome, found, Judges}
-use Rattle.immunity.specs.Ranks.{ranksUpTo, additionsOf, differ}
+use Rattle.immunity.specs.Ranks.{ranksOf, ranksUpTo, additionsOf, differ}
 use Rattle.immunity.proofs.First.{first-same}
 use Rattle.immunity.proofs.Given.{ranks-given}
+use Rattle.immunity.proofs.NewPoint.{new-point-none}
 use Rattle.immunity.proofs.Passed.{Passed, judge-accepts, some-member}
 use Rattle.immunity.proofs.Reported.{reports}
 
@@ -82,6 +88,24 @@ module _ (n : ℕ) (s f : List ℕ) where
     side-judged {k} l r h =
         let all = ap (λ x. getD x k noRanks) given ∙ ranks-given graded n s f k l small in
         h ∙ ap (λ (x : Ranks). byte (not (eqb (x .set) (x .one)))) all ∙ sym (ap (sideAt graded n s f) r)
+
+module _ (o : List ℕ) (n : ℕ) (ss ps qs : List ℕ) (rising : Rising ss) (small : n ≤ 9)
+    (ranks : List Ranks) (h : ranks ≡ map (ranksUpTo o n ss ps qs) (below 10)) (k : ℕ) (l : k ≤ n)
+  where
+    -- the ranks found at a degree
+    ranks-at : getD ranks k noRanks ≡ ranksOf o n k ss ps qs
+    unfolding ranksIf
+    ranks-at = ap (λ x. getD x k noRanks) h ∙ value-at (ranksUpTo o n ss ps qs) 10 k noRanks (omega arith) ∙ rw (le-leb k n l)
+
+    -- where the ranks of the set and of part 1 are equal, part 1 has no new point
+    pub one-none : Each (λ a. List·Memᴰ a ss) ps → getD ranks k noRanks .set ≡ getD ranks k noRanks .one → newPoint o n k ss ps ≡ none
+    one-none among e =
+        new-point-none o n k ps ss rising among (sym (ap (λ (r : Ranks). r .set) ranks-at) ∙ e ∙ ap (λ (r : Ranks). r .one) ranks-at)
+
+    -- the same of part 0
+    pub zero-none : Each (λ a. List·Memᴰ a ss) qs → getD ranks k noRanks .set ≡ getD ranks k noRanks .zero → newPoint o n k ss qs ≡ none
+    zero-none among e =
+        new-point-none o n k qs ss rising among (sym (ap (λ (r : Ranks). r .set) ranks-at) ∙ e ∙ ap (λ (r : Ranks). r .zero) ranks-at)
 
 -- judgements are equal by parts
 judgement-by : {xs ys : List Ranks} {k j : Option ℕ} {a b c d : ℕ} {u v w x : List ℕ} → xs ≡ ys → k ≡ j → a ≡ b → c ≡ d → u ≡ v → w ≡ x

@@ -1,4 +1,5 @@
 -- The witness that is written from the workspace is the witness of the definition.
+--   none-written    zeros are the witness where there is no new point
 --   written-full    where the kept rows are 512 there is no new point: zeros are the witness
 --   written-none    where no row is kept there is none either
 --   written-new     where a row is kept, the columns of the solution are the witness
@@ -69,7 +70,7 @@ module _ {o : List ℕ} (g : Graded o) (n d : ℕ) (ss ps : List ℕ) where
       omega (arith, few, length-append kept (left a ∷ []))
 
   -- zeros are the witness where there is no new point
-  none-written : newPoint o n d ss ps ≡ none → zeros 512 ≡ mask (witnessAt o n d ss ps)
+  pub none-written : newPoint o n d ss ps ≡ none → zeros 512 ≡ mask (witnessAt o n d ss ps)
   unfolding zeros witnessAt witnessRow choice chosen mark
   none-written e = rw e (mark-mask [])
 

@@ -1,7 +1,7 @@
 // Judge: the ranks of a set and of its two parts at each degree, the reported degree, and the witnesses.
 ghost use mathlib.Core.Path.{_≡_};
 ghost use mathlib.Core.List.{map};
-ghost use mathlib.Core.Option.{some};
+ghost use mathlib.Core.Option.{none, some};
 ghost use mathlib.Core.Bool.{true, false, not};
 ghost use Prim.Native.Nat.{ℕ, _+_, _≤_};
 ghost use lib.Dec.{eqb, leb};
@@ -15,12 +15,12 @@ ghost use Rattle.matrix.specs.Matrix.{eliminated, rankOf};
 ghost use Rattle.matrix.specs.Workspace.{exponents, RowsFrom};
 ghost use Rattle.immunity.specs.declared.judge.Finding.the-variants.{Refused};
 ghost use Rattle.immunity.specs.First.{first};
-ghost use Rattle.immunity.specs.Witness.{witnessAt};
+ghost use Rattle.immunity.specs.Witness.{newPoint, witnessAt};
 ghost use Rattle.immunity.specs.Judgement.{noRanks, ranksIf, summed};
 ghost use Rattle.immunity.specs.Ranks.{ranksIn, ranksUpTo, additionsOf, differ, Ready};
 ghost use Rattle.immunity.specs.Judge.{Judges};
 use crate::part::part_mask;
-use crate::witness::write_witness;
+use crate::witness::write_side;
 use cube::POINTS;
 use cube::mask::is_empty;
 use cube::mask::well_formed;
@@ -152,6 +152,7 @@ fn judge_points(
     let found = all_ranks(workspace, &order, set, &part_one, &part_zero, n);
     let ranks = found.ranks;
     let k = first_difference(ranks, n);
+    let here = ranks[k];
     write_witnesses(
         workspace,
         &order,
@@ -160,11 +161,11 @@ fn judge_points(
         &part_zero,
         n,
         k,
+        here,
         one,
         zero,
     );
     clear(workspace);
-    let here = ranks[k];
     JudgeAnswer {
         finding: Finding::Judged {
             degree: k,
@@ -245,7 +246,7 @@ fn all_ranks(
     }
 }
 
-// The witnesses against the parts `p` and `q` of the set at degree `d` are written.
+// The witnesses against the parts `p` and `q` of the set at degree `d`, where `r` are the ranks, are written.
 fn write_witnesses(
     ws: &mut [u64],
     order: &[u16; 512],
@@ -254,15 +255,18 @@ fn write_witnesses(
     q: &[u8],
     n: usize,
     d: usize,
+    r: Ranks,
     one: &mut [u8],
     zero: &mut [u8],
 )
-    requires { ⌜ Ready (now order) n (now ws) (now set) (now p) (now q) × (d ≤ n) × (length (now one) ≡ 512) × (length (now zero) ≡ 512) ⌝ }
+    requires { ⌜ Ready (now order) n (now ws) (now set) (now p) (now q) × (d ≤ n) × (length (now one) ≡ 512) × (length (now zero) ≡ 512)
+        × (r .set ≡ r .one → newPoint (now order) n d (points (now set)) (points (now p)) ≡ none)
+        × (r .set ≡ r .zero → newPoint (now order) n d (points (now set)) (points (now q)) ≡ none) ⌝ }
     ensures { λ _. ⌜ now (one .exit) ≡ mask (witnessAt (now (order .entry)) n d (points (now (set .entry))) (points (now (p .entry)))) ⌝ }
     ensures { λ _. ⌜ now (zero .exit) ≡ mask (witnessAt (now (order .entry)) n d (points (now (set .entry))) (points (now (q .entry)))) ⌝ }
 {
-    write_witness(ws, order, set, p, n, d, one);
-    write_witness(ws, order, set, q, n, d, zero);
+    write_side(ws, order, set, p, n, d, r.set != r.one, one);
+    write_side(ws, order, set, q, n, d, r.set != r.zero, zero);
 }
 
 // Whether the rank of a part is not that of the set.

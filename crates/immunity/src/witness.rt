@@ -1,5 +1,7 @@
 // The witness of document 01, 'Judgement': the polynomial that is zero on a part of the set, and not on all of the set.
 ghost use mathlib.Core.Path.{_≡_};
+ghost use mathlib.Core.Bool.{false};
+ghost use mathlib.Core.Option.{none};
 ghost use Prim.Native.Nat.{_+_, _≤_, _<_};
 ghost use lib.ListN.{length, drop};
 ghost use Rattle.cube.specs.Numbers.{Inside};
@@ -10,7 +12,7 @@ ghost use Rattle.gf2.specs.Vector.{chosen};
 ghost use Rattle.gf2.specs.Packed.{unpack, unpacked, zeros, Pivots};
 ghost use Rattle.matrix.specs.Workspace.{exponents, RowsFrom};
 ghost use Rattle.immunity.specs.NewRow.{FindsNew};
-ghost use Rattle.immunity.specs.Witness.{witnessAt};
+ghost use Rattle.immunity.specs.Witness.{newPoint, witnessAt};
 use cube::Exponent;
 use cube::POINTS;
 use cube::size;
@@ -76,7 +78,7 @@ fn keep_new(ws: &mut [u64], pivots: &mut [u16], set: &[u8], kept: usize, columns
 
 // The witness against the points of `part` of the set at degree `d` is written; zeros where every row of the set is a sum
 // of rows of the part.
-pub fn write_witness(
+fn write_witness(
     ws: &mut [u64],
     order: &[u16; 512],
     set: &[u8],
@@ -102,4 +104,29 @@ pub fn write_witness(
             mark_columns(order, n, d, &x, witness);
         }
     }
+}
+
+// The same, where `differs` tells whether some row of the set is no sum of rows of the part.
+pub fn write_side(
+    ws: &mut [u64],
+    order: &[u16; 512],
+    set: &[u8],
+    part: &[u8],
+    n: usize,
+    d: usize,
+    differs: bool,
+    witness: &mut [u8],
+)
+    requires { ⌜ (length (now ws) ≡ 8192) × (length (now set) ≡ 512) × (length (now part) ≡ 512) × (length (now witness) ≡ 512)
+        × Graded (now order) × (n ≤ 9) × (d ≤ n) × Inside (sizeOf n) (points (now set)) × Inside (sizeOf n) (points (now part))
+        × RowsFrom (exponents (now order) n) n (unpacked (now ws)) 0
+        × (differs ≡ false → newPoint (now order) n d (points (now set)) (points (now part)) ≡ none) ⌝ }
+    ensures { λ _. ⌜ now (witness .exit) ≡ mask (witnessAt (now (order .entry)) n d (points (now (set .entry))) (points (now (part .entry)))) ⌝ }
+    ensures { λ _. ⌜ drop 512 (unpacked (now (ws .exit))) ≡ drop 512 (unpacked (now (ws .entry))) ⌝ }
+{
+    if differs {
+        write_witness(ws, order, set, part, n, d, witness);
+        return;
+    }
+    clear_bytes(witness);
 }

@@ -13,12 +13,14 @@ use Rattle.cube.proofs.Taps.{taps-range}
 use Rattle.gf2.specs.Packed.{unpacked, zeros}
 use Rattle.gf2.proofs.Rows.{length-rows}
 use Rattle.matrix.specs.Workspace.{exponents}
+use Rattle.matrix.proofs.Rising.{points-rising}
 use Rattle.matrix.proofs.Stored.{filled-rows}
 use Rattle.immunity.specs.Ranks.{Ready}
 use Rattle.immunity.proofs.Passed.{Passed}
 use Rattle.immunity.proofs.Parts.{part-inside}
 use Rattle.immunity.proofs.Ready.{ready-after}
-use Rattle.immunity.proofs.Judging.{judgement-found, accepts}
+use Rattle.immunity.proofs.Reported.{part-among}
+use Rattle.immunity.proofs.Judging.{one-none, zero-none, judgement-found, accepts}
 use Rattle.immunity.proofs.judge.judge_points.Statement.{statement}
 use Rattle.immunity.proofs.judge.judge_points.Tie as tie
 
@@ -75,42 +77,54 @@ first-difference-requires : tie.Need-first-difference-requires
 first-difference-requires c κs = small (c .before .before .before .before .before .before .before .before .before .before .before .before .before .before .before .before .before .before .before .before .before)
 
 slice-aggregate-write-witnesses-2 : tie.Need-slice-aggregate-write-witnesses-2
-slice-aggregate-write-witnesses-2 c = sym (long-zero (c .before .before .before .before .before .before .before .before .before .before .before .before .before .before .before .before .before .before))
+slice-aggregate-write-witnesses-2 c = sym (long-zero (c .before .before .before .before .before .before .before .before .before .before .before .before .before .before .before .before .before .before .before))
 
 write-witnesses-requires : tie.Need-write-witnesses-requires
 write-witnesses-requires c κs =
-    let k = c .before .before .before .before .before .before in
+    let k = c .before .before .before .before .before .before .before in
     let r = k .before .before .before .before in
-    let s = r .before .before .before .before .before .before .before .before .before .before .before .before .before .before .before .before .before .before in
-    (ready-after (filled-ready (r .before .before .before .before .before .before .before)) (r .all-ranks .last .0) (r .all-ranks .kept .0) (r .all-ranks .ensures .1 .1), k .first-difference .ensures .1, s .pre .3, s .pre .4)
+    let f = r .before .before .before .before .before .before .before in
+    let q = f .before .before .before in
+    let s = q .before .before .before .before .before .before .before .before in (
+      ready-after (filled-ready f) (r .all-ranks .last .0) (r .all-ranks .kept .0) (r .all-ranks .ensures .1 .1),
+      k .first-difference .ensures .1,
+      s .pre .3,
+      s .pre .4,
+      one-none (q .before .before .graded-order .result) (s .args .n) (points (s .args .set .now)) (points (q .before .part-mask .result)) (points (q .part-mask2 .result)) (points-rising (s .args .set .now)) (small s)
+          (r .all-ranks .result .ranks) (r .all-ranks .ensures .0) (k .first-difference .result) (k .first-difference .ensures .1)
+          (rw (q .before .part-mask .ensures) (part-among 1 (s .args .set .now) (s .args .table .now))),
+      zero-none (q .before .before .graded-order .result) (s .args .n) (points (s .args .set .now)) (points (q .before .part-mask .result)) (points (q .part-mask2 .result)) (points-rising (s .args .set .now)) (small s)
+          (r .all-ranks .result .ranks) (r .all-ranks .ensures .0) (k .first-difference .result) (k .first-difference .ensures .1)
+          (rw (q .part-mask2 .ensures) (part-among 0 (s .args .set .now) (s .args .table .now))),
+    )
 
 mul-here : tie.Need-mul-here
 mul-here c =
-    let k = c .before .before .before .before .before .before .before .before .before .before .before .before .before .before .before .before .before in
+    let k = c in
     let most = small (k .before .before .before .before .before .before .before .before .before .before .before .before .before .before .before .before .before .before .before .before .before .before) in
     omega (arith, k .first-difference .ensures .1, most)
 
 array-copy-out-here : tie.Need-array-copy-out-here
 array-copy-out-here c =
-    let k = c .before .before .before .before .before .before .before .before .before .before .before .before .before .before .before .before .before in
+    let k = c in
     let most = small (k .before .before .before .before .before .before .before .before .before .before .before .before .before .before .before .before .before .before .before .before .before .before) in
     omega (arith, k .first-difference .ensures .1, most)
 
 -- the workspace keeps its length up to where it is cleared
-kept : (c : tie.After-clear) → let s = c .before .before .before .before .before .before .before .before .before .before .before .before .before .before .before .before .before .before .before .before .before .before .before .before .before .before .before .before .before .before .before .before .before .before .before .before .before in length (c .before .before .before .before .before .before .before .before .write-witnesses .last .0) ≡ length (s .args .workspace .now)
+kept : (c : tie.After-clear) → let s = c .before .before .before .before .before .before .before .before .before .before .before .before .before .before .before .before .before .before .before .before .before .before .before .before .before .before .before .before .before .before .before .before .before .before .before .before .before .before in length (c .before .before .before .before .before .before .before .before .write-witnesses .last .0) ≡ length (s .args .workspace .now)
 kept c =
     let w = c .before .before .before .before .before .before .before .before in
-    let r = w .before .before .before .before .before .before .before .before .before .before .before in
+    let r = w .before .before .before .before .before .before .before .before .before .before .before .before in
     w .write-witnesses .kept .0 ∙ r .all-ranks .kept .0 ∙ r .before .before .before .before .before .before .before .fill-rows .kept .0
 
 same-length : tie.Need-same-length
-same-length c = let k = c .before .before .before .before in k .clear .kept .0 ∙ kept k
+same-length c = let k = c .before .before .before in k .clear .kept .0 ∙ kept k
 
 returns : tie.Need-returns
 returns c =
-    let e = c .before .before .before .before in
+    let e = c .before .before .before in
     let w = e .before .before .before .before .before .before .before .before in
-    let k = w .before .before .before .before .before .before .before in
+    let k = w .before .before .before .before .before .before .before .before in
     let r = k .before .before .before .before in
     let q = r .before .before .before .before .before .before .before .before .before .before in
     let o = q .before .before in
@@ -134,12 +148,12 @@ judge-points-spec =
     (λ c. search needs)
     all-ranks-requires
     first-difference-requires
+    mul-here
+    array-copy-out-here
     (λ c. search needs)
     slice-aggregate-write-witnesses-2
     write-witnesses-requires
     (λ c κs. search needs)
-    mul-here
-    array-copy-out-here
     (λ c κs. search needs)
     same-length
     (λ c. search needs)
