@@ -1,5 +1,6 @@
 // Judge of the proved library in C, by the same steps: rows made once, an elimination with all columns for the set and
-// each part, the ranks at each degree from its pivots, the first difference, and two witnesses by back substitution.
+// each part, the ranks at each degree from its pivots, the first difference, and by back substitution the witness of
+// each side that differs.
 #include "elimination.h"
 #include <string.h>
 
@@ -35,13 +36,12 @@ static void write_choice(uint8_t *witness, size_t n, const uint64_t *row) {
             witness[order[i]] = has(row, count++);
 }
 
-// The witness against a part of the set at degree d; zeros where every row of the set is a sum of rows of the part.
+// The witness against a part of the set that differs at degree d, into zeros.
 static void write_witness(uint8_t *witness, const uint8_t *set, const uint8_t *part, size_t n, size_t d,
                           uint64_t *workspace) {
     int columns = column_count(n, d);
     struct basis basis;
     uint64_t row[WORDS];
-    memset(witness, 0, POINTS);
     eliminate(&basis, part, columns, workspace);
     if (!take_new(&basis, set, columns, workspace))
         return;
@@ -119,8 +119,12 @@ void c_judge(const uint8_t *set, const uint8_t *table, size_t n, uint64_t *works
     *additions = all_ranks(ranks, masks, n, workspace);
     while (ranks[k][0] == ranks[k][1] && ranks[k][0] == ranks[k][2])
         k++;
-    write_witness(one, set, part_one, n, k, workspace);
-    write_witness(zero, set, part_zero, n, k, workspace);
+    memset(one, 0, POINTS);
+    memset(zero, 0, POINTS);
+    if (ranks[k][1] != ranks[k][0])
+        write_witness(one, set, part_one, n, k, workspace);
+    if (ranks[k][2] != ranks[k][0])
+        write_witness(zero, set, part_zero, n, k, workspace);
     clear(workspace);
     *degree = k;
     *side = ranks[k][1] != ranks[k][0];

@@ -1,5 +1,6 @@
 // Judge of the proved library in Rust, by the same steps: rows made once, an elimination with all columns for the set and
-// each part, the ranks at each degree from its pivots, the first difference, and two witnesses by back substitution.
+// each part, the ranks at each degree from its pivots, the first difference, and by back substitution the witness of
+// each side that differs.
 use crate::elimination::{
     Basis, Row, column_count, eliminate, eliminate_tallied, exponents, first_columns, has, prepare, rows_of,
 };
@@ -22,11 +23,10 @@ fn solve_last(basis: &Basis) -> Row {
     x
 }
 
-// The witness against a part of the set at degree d; zeros where every row of the set is a sum of rows of the part.
+// The witness against a part of the set that differs at degree d, into zeros.
 fn write_witness(witness: &mut [u8], [set, part]: [&[u8]; 2], n: usize, d: usize, kept: &mut [Row], rows: &[Row]) {
     let columns = column_count(n, d);
     let mut basis = eliminate(part, columns, kept, rows);
-    witness.fill(0);
     if rows_of(set, rows).any(|row| basis.take(first_columns(row, columns))) {
         let row = solve_last(&basis);
         exponents(n).zip(0..).for_each(|(u, c)| witness[usize::from(u)] = has(&row, c).into());
@@ -55,8 +55,12 @@ pub fn judge(filter: Filter, workspace: &mut [u64], one: &mut [u8], zero: &mut [
     let (kept, rows) = prepare(n, workspace);
     let (ranks, additions) = all_ranks([set, &part_one, &part_zero], n, kept, rows);
     let degree = ranks.iter().position(|[all, one, zero]| all != one || all != zero).expect("at n a part differs");
-    write_witness(one, [set, &part_one], n, degree, kept, rows);
-    write_witness(zero, [set, &part_zero], n, degree, kept, rows);
+    for (witness, part, rank) in [(one, &part_one, 1), (zero, &part_zero, 2)] {
+        witness.fill(0);
+        if ranks[degree][rank] != ranks[degree][0] {
+            write_witness(witness, [set, part], n, degree, kept, rows);
+        }
+    }
     workspace.fill(0);
     let side = u8::from(ranks[degree][1] != ranks[degree][0]);
     Judgement { ranks, degree, side, additions }
