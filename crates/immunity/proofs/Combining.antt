@@ -16,7 +16,7 @@ use lib.Seq.{length-take-le}
 use Rattle.cube.specs.Numbers.{upFrom, below, filter, Inside}
 use Rattle.cube.specs.Mask.{member}
 use Rattle.cube.proofs.Listed.{member-filter}
-use Rattle.cube.proofs.Masks.{member-from}
+use Rattle.cube.proofs.Masks.{member-from, filter-yes, filter-no}
 use Rattle.gf2.specs.Vector.{Row, Each, add, total, unit, chosen}
 use Rattle.gf2.specs.Elimination.{Reduced, reduce, isZero, keepUnless, Elimination, takePoint, takePoints, eliminate}
 use Rattle.gf2.specs.Packed.{rowOf, cut, padded, Places, oneMoreUnless}
@@ -26,7 +26,7 @@ use Rattle.gf2.proofs.Kept.{points-chosen, eliminate-snoc}
 use Rattle.gf2.proofs.Padded.{total-padded}
 use Rattle.gf2.proofs.Steps.{kept-more, keep-map}
 use Rattle.matrix.specs.Workspace.{stored}
-use Rattle.matrix.proofs.Taking.{pointsTo, points-yes, points-no}
+use Rattle.matrix.proofs.Taking.{pointsTo}
 use Rattle.immunity.specs.Combination.{followed, Combines}
 use Rattle.immunity.proofs.Following.{followed-left, followed-sum, followed-other, followed-places, followed-kept}
 
@@ -65,7 +65,7 @@ module _ (t : List Row) (c : ℕ) (b : List ℕ) where
   module _ (t′ : List Row) (a k : ℕ) (ps : List ℕ) (h : Combines t t′ c (pointsTo b a) k ps) where
     -- the next number is not a point of the part
     pub combines-no : member b a ≡ false → Combines t t′ c (pointsTo b (a + 1)) k ps
-    combines-no e = rw (points-no b a e) h
+    combines-no e = rw (filter-no (member b) a e) h
 
     -- it is
     pub combines-yes : (t″ : List Row) (k′ : ℕ) (ps′ : List ℕ) → length t′ ≡ 1024 → k < 512 → a < 512 → length ps ≡ 512 → Places ps k (512 + a) → member b a ≡ true
@@ -79,7 +79,7 @@ module _ (t : List Row) (c : ℕ) (b : List ℕ) where
         let m : Reduced = reduce (take k t′) (stored t′ c a) in
         let z : Bool = isZero (m .left) in
         let sum : Row = add (unit a) (total (chosen (m .added) (old .combinations))) in
-        let next : eliminate (stored t c) (pointsTo b (a + 1)) ≡ takePoint (stored t c) old a = ap (eliminate (stored t c)) (points-yes b a e) ∙ eliminate-snoc (stored t c) qs a in
+        let next : eliminate (stored t c) (pointsTo b (a + 1)) ≡ takePoint (stored t c) old a = ap (eliminate (stored t c)) (filter-yes (member b) a e) ∙ eliminate-snoc (stored t c) qs a in
         let same : reduce (old .kept) (stored t c a) ≡ m = ap₂ reduce (h .kept) (ap (cut c) (sym (h .stays a (not-before b a)))) in
         let more : k′ ≡ oneMoreUnless z k =
         count ∙ ap (λ v. oneMoreUnless (isZero v) k) (ap (λ s. rowOf s k) rows ∙ followed-left c k a x ps t′ long small point) in
@@ -107,7 +107,7 @@ module _ (t : List Row) (c : ℕ) (b : List ℕ) where
               ∙ sym (ap (λ (y : Elimination). map (λ q. 512 + q) (y .points)) next
               ∙ ap (λ (r : Reduced). map (λ q. 512 + q) (keepUnless (isZero (r .left)) (old .points) a)) same);
           stays = λ j out.
-              let before : ¬ List·Memᴰ j qs = λ i. out (subst (List·Memᴰ j) (sym (points-yes b a e)) (Memᴰ·append-left (a ∷ []) i)) in
-              let other : j ≡ a → ⊥ = λ i. out (subst (List·Memᴰ j) (sym (points-yes b a e)) (Memᴰ·append-right qs (List·Memᴰ·head i))) in
+              let before : ¬ List·Memᴰ j qs = λ i. out (subst (List·Memᴰ j) (sym (filter-yes (member b) a e)) (Memᴰ·append-left (a ∷ []) i)) in
+              let other : j ≡ a → ⊥ = λ i. out (subst (List·Memᴰ j) (sym (filter-yes (member b) a e)) (Memᴰ·append-right qs (List·Memᴰ·head i))) in
               ap (λ s. rowOf s (512 + j)) rows ∙ followed-other c k a x ps t′ long small point (512 + j) (omega arith) (λ i. other (omega arith)) ∙ h .stays j before;
         }

@@ -17,6 +17,7 @@ use Rattle.cube.specs.Numbers.{upFrom, filter, Inside}
 use Rattle.cube.specs.Cube.{size}
 use Rattle.cube.specs.Mask.{member}
 use Rattle.cube.specs.Order.{Graded, columns}
+use Rattle.cube.proofs.Masks.{filter-yes, filter-no}
 use Rattle.gf2.specs.Vector.{Row, Each}
 use Rattle.gf2.specs.Elimination.{pivot, isZero, count, reduce, keepUnless, Elimination, takePoint, takePoints, eliminate}
 use Rattle.gf2.specs.Packed.{rowOf, zeros, cut, padded, oneMoreUnless, Pivots}
@@ -28,7 +29,7 @@ use Rattle.gf2.proofs.Prefix.{kept-cut, left-cut, length-kept, pivots-taken}
 use Rattle.gf2.proofs.Tally.{sum-zeros, tallies-reduces}
 use Rattle.matrix.specs.Matrix.{eliminated, rankOf}
 use Rattle.matrix.specs.Workspace.{exponents, RowsFrom, stored, Takes, TakesAll, EliminatesAll}
-use Rattle.matrix.proofs.Taking.{takes, pointsTo, points-yes, points-no}
+use Rattle.matrix.proofs.Taking.{takes, pointsTo}
 use Rattle.matrix.proofs.Stored.{stored-elimination}
 
 -- a row copied behind the kept rows, reduced with a tally, and kept or not
@@ -72,7 +73,7 @@ module _ (t : List Row) (b : List ℕ) where
       ps = pointsTo b a
 
       next : (c : ℕ) → eliminate (stored t c) (pointsTo b (a + 1)) ≡ takePoint (stored t c) (eliminate (stored t c) ps) a
-      next c = ap (eliminate (stored t c)) (points-yes b a e) ∙ eliminate-snoc (stored t c) ps a
+      next c = ap (eliminate (stored t c)) (filter-yes (member b) a e) ∙ eliminate-snoc (stored t c) ps a
 
       row : rowOf t (512 + a) ≡ rowOf t′ (512 + a)
       row = sym (getD-drop 512 t a []) ∙ ap (λ x. getD x a []) (sym (h .stays)) ∙ getD-drop 512 t′ a []
@@ -82,7 +83,7 @@ module _ (t : List Row) (b : List ℕ) where
 
   -- it is not
   pub eliminates-all-no : (t′ : List Row) (a k : ℕ) (xs : List ℕ) → EliminatesAll t t′ (pointsTo b a) k xs → member b a ≡ false → EliminatesAll t t′ (pointsTo b (a + 1)) k xs
-  eliminates-all-no t′ a k xs h e = rw (points-no b a e) h
+  eliminates-all-no t′ a k xs h e = rw (filter-no (member b) a e) h
 
 module _ {o : List ℕ} (g : Graded o) (n d : ℕ) (s : n ≤ 9) (low : d ≤ n) (t : List Row) (there : RowsFrom (exponents o n) n t 0) (ps : List ℕ) (inside : Inside (size n) ps)
     (t′ : List Row) (k : ℕ) (xs : List ℕ) (h : EliminatesAll t t′ ps k xs)
