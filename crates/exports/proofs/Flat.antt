@@ -9,7 +9,7 @@ use native.Mathlib.Omega.{arith}
 use lib.ListN.{length, getD, set, take, length-set}
 use lib.Seq.{take-suc, take-suc-set}
 use Rattle.immunity.specs.declared.judge.Ranks.{Ranks}
-use Rattle.immunity.specs.Judgement.{noRanks}
+use Rattle.immunity.specs.Ranks.{noRanks}
 use Rattle.exports.specs.Exported.{flat}
 
 -- no degree is written yet

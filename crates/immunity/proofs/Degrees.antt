@@ -23,7 +23,8 @@ use borrow.Author.Tests.{le-leb, lt-leb}
 use Rattle.cube.specs.Numbers.{upFrom, below}
 use Rattle.cube.proofs.Masks.{length-from, value-at}
 use Rattle.immunity.specs.declared.judge.Ranks.{Ranks}
-use Rattle.immunity.specs.Judgement.{noRanks, ranksIf, summed}
+use Rattle.immunity.specs.Ranks.{noRanks, ranksIf}
+use Rattle.immunity.specs.Judgement.{summed}
 
 -- the degrees from d on up to n
 abbrev pub degreesFrom : ℕ → ℕ → List ℕ

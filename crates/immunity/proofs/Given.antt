@@ -15,7 +15,8 @@ use Rattle.cube.proofs.Masks.{value-at}
 use Rattle.matrix.specs.Matrix.{rankOf}
 use Rattle.immunity.specs.declared.judge.Ranks.{Ranks}
 use Rattle.immunity.specs.Part.{part}
-use Rattle.immunity.specs.Judgement.{EqualRanks, noRanks, ranksIf, ranksAt, judged, setRank, partRank}
+use Rattle.immunity.specs.Ranks.{noRanks, ranksIf}
+use Rattle.immunity.specs.Judgement.{EqualRanks, ranksAt, judged, setRank, partRank}
 use Rattle.immunity.specs.Demands.{GivenEqual}
 
 module _ (o : List ℕ) (n : ℕ) (s f : List ℕ) (d : ℕ) (up : d ≤ n) (small : n ≤ 9) where

@@ -34,9 +34,9 @@ use Rattle.immunity.specs.declared.judge.Finding.the-variants.{Refused, 
 use Rattle.immunity.specs.Part.{part}
 use Rattle.immunity.specs.First.{first}
 use Rattle.immunity.specs.Witness.{newPoint, witnessAt}
-use Rattle.immunity.specs.Judgement.{Judgement, noRanks, ranksIf, differs, eitherDiffers, reported, ranksAt, sideAt, additionsAt, summed, witnessBytes, judged}
+use Rattle.immunity.specs.Judgement.{Judgement, differs, eitherDiffers, reported, ranksAt, sideAt, additionsAt, summed, witnessBytes, judged}
 use Rattle.immunity.specs.Judge.{judgeChecks, judgeOutcome, found, Judges}
-use Rattle.immunity.specs.Ranks.{ranksOf, ranksUpTo, additionsOf, differ}
+use Rattle.immunity.specs.Ranks.{noRanks, ranksIf, ranksOf, ranksUpTo, additionsOf, differ}
 use Rattle.immunity.proofs.First.{first-same}
 use Rattle.immunity.proofs.Given.{ranks-given}
 use Rattle.immunity.proofs.NewPoint.{new-point-none}

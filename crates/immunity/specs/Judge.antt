@@ -23,7 +23,8 @@ use Rattle.immunity.specs.declared.judge.JudgeAnswer.{JudgeAnswer}
 use Rattle.immunity.specs.declared.judge.Finding.{Finding}
 use Rattle.immunity.specs.declared.judge.Finding.the-variants.{Refused, Judged}
 use Rattle.immunity.specs.declared.judge.Ranks.{Ranks}
-use Rattle.immunity.specs.Judgement.{Judgement, noRanks, judged}
+use Rattle.immunity.specs.Ranks.{noRanks}
+use Rattle.immunity.specs.Judgement.{Judgement, judged}
 
 -- lengths, taps, the set's bytes, the table's bytes, a point in the set
 abbrev pub judgeChecks : List ℕ → List ℕ → ℕ → ℕ → ℕ → ℕ → List Check

@@ -2,7 +2,7 @@
 --   EqualRanks o n s f side d   the set and the side's part have the same rank at degree d
 --   differs o n s f d side   at degree d the rank of the side's part is not that of the set
 --   eitherDiffers ..         one of the two sides differs
---   noRanks, ranksIf, ranksAt   the ranks of the set, part 1 and part 0 at a degree; all 0 past n
+--   ranksAt o n s f d        the ranks of the set, part 1 and part 0 at a degree; all 0 past n
 --   reported o n s f         the first degree at which a side differs, or none
 --   sideAt .. k              the side for the reported degree: 1 if side 1 differs there, else 0
 --   additionsAt              the additions of the three eliminations at a degree
@@ -13,17 +13,18 @@
 --   partRank j side d        the rank of a side's part
 --   buffer j side            the witness buffer of a side
 use mathlib.Core.Path.{_≡_}
-use mathlib.Core.Bool.{Bool, true, false, not, _||_}
+use mathlib.Core.Bool.{Bool, false, not, _||_}
 use mathlib.Core.List.{List, [], _∷_, map}
 use mathlib.Core.Option.{Option, none, some}
 use Prim.Native.Nat.{ℕ, zero, suc, _+_}
-use lib.Dec.{eqb, leb}
+use lib.Dec.{eqb}
 use lib.ListN.{getD}
 use Rattle.cube.specs.Numbers.{below}
 use Rattle.cube.specs.Mask.{points, byte, mask}
-use Rattle.matrix.specs.Matrix.{eliminated, rankOf}
+use Rattle.matrix.specs.Matrix.{rankOf}
 use Rattle.immunity.specs.Part.{part}
 use Rattle.immunity.specs.declared.judge.Ranks.{Ranks}
+use Rattle.immunity.specs.Ranks.{noRanks, ranksIf, ranksUpTo, additionsOf}
 use Rattle.immunity.specs.First.{first}
 use Rattle.immunity.specs.Witness.{witnessAt}
 
@@ -44,20 +45,10 @@ unfoldable pub reported : List ℕ → ℕ → List ℕ → List ℕ → Option 
 unfolding first differs
 reported o n s f = first (eitherDiffers o n s f) (below (n + 1))
 
--- all 0
-abbrev pub noRanks : Ranks
-noRanks = record { set = 0; one = 0; zero = 0 }
-
--- the given ranks, or all 0
-unfoldable pub ranksIf : Bool → Ranks → Ranks
-ranksIf true r = r
-ranksIf false r = noRanks
-
 -- the ranks at a degree, all 0 past n
 unfoldable pub ranksAt : List ℕ → ℕ → List ℕ → List ℕ → ℕ → Ranks
 unfolding ranksIf
-ranksAt o n s f d =
-    ranksIf (leb d n) (record { set = rankOf o n d (points s); one = rankOf o n d (part 1 s f); zero = rankOf o n d (part 0 s f) })
+ranksAt o n s f d = ranksUpTo o n (points s) (part 1 s f) (part 0 s f) d
 
 -- the side for the reported degree
 unfoldable pub sideAt : List ℕ → ℕ → List ℕ → List ℕ → Option ℕ → ℕ
@@ -67,8 +58,7 @@ sideAt o n s f (some k) = byte (differs o n s f k 1)
 
 -- the additions at a degree
 unfoldable pub additionsAt : List ℕ → ℕ → List ℕ → List ℕ → ℕ → ℕ
-additionsAt o n s f d =
-    eliminated o n d (points s) .additions + eliminated o n d (part 1 s f) .additions + eliminated o n d (part 0 s f) .additions
+additionsAt o n s f d = additionsOf o n d (points s) (part 1 s f) (part 0 s f)
 
 -- the sum of a number for each member
 unfoldable pub summed : (ℕ → ℕ) → List ℕ → ℕ

@@ -2,10 +2,11 @@
 pub mod Part
 pub mod Annihilator
 pub mod First
+pub mod Ranks
+pub mod Ready
 pub mod Witness
 pub mod NewRow
 pub mod Judgement
-pub mod Ranks
 pub mod Certificate
 pub mod Combination
 pub mod Judge

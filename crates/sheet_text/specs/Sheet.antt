@@ -29,7 +29,8 @@ use Rattle.cube.specs.BuiltIn.{graded}
 use Rattle.filter_file.specs.File.{Contents}
 use Rattle.filter_file.specs.Read.{readOutcome}
 use Rattle.immunity.specs.declared.judge.Ranks.{Ranks}
-use Rattle.immunity.specs.Judgement.{Judgement, noRanks, judged}
+use Rattle.immunity.specs.Ranks.{noRanks}
+use Rattle.immunity.specs.Judgement.{Judgement, judged}
 use Rattle.immunity.specs.Certificate.{bitOf, certificate}
 use Rattle.immunity.specs.HandOver.{ofSide}
 use Rattle.sheet_text.specs.Text.{Bytes, ascii, newline, decimal, field, labelled, joined, fields}

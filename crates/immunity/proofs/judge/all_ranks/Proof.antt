@@ -6,7 +6,8 @@ use Rattle.cube.specs.Numbers.{below}
 use Rattle.cube.specs.Mask.{points}
 use Rattle.matrix.specs.Matrix.{eliminated}
 use Rattle.immunity.specs.declared.judge.Ranks.{Ranks}
-use Rattle.immunity.specs.Ranks.{ranksOf, ranksIn, Ready}
+use Rattle.immunity.specs.Ranks.{ranksOf, ranksIn}
+use Rattle.immunity.specs.Ready.{Ready}
 use Rattle.immunity.proofs.Ready.{ready-after}
 use Rattle.immunity.proofs.Degrees.{ranks-same, summed-three}
 use Rattle.immunity.proofs.judge.all_ranks.Statement.{statement}

@@ -7,8 +7,7 @@ use borrow.Author.Needs.{needs}
 use lib.ListN.{getD}
 use Rattle.cube.specs.Numbers.{below}
 use Rattle.immunity.specs.First.{firstIf, first}
-use Rattle.immunity.specs.Judgement.{noRanks}
-use Rattle.immunity.specs.Ranks.{differ}
+use Rattle.immunity.specs.Ranks.{noRanks, differ}
 use Rattle.immunity.proofs.Degrees.{degreesFrom, degrees-all, degrees-here, degrees-none}
 use Rattle.immunity.proofs.judge.first_difference.Statement.{statement}
 use Rattle.immunity.proofs.judge.first_difference.Tie as tie

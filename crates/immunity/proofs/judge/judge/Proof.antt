@@ -13,7 +13,7 @@ use Rattle.cube.specs.Mask.{wellFormed}
 use Rattle.cube.proofs.Taps.{taps-range}
 use Rattle.immunity.specs.declared.judge.JudgeAnswer.{JudgeAnswer}
 use Rattle.immunity.specs.declared.judge.Finding.the-variants.{Refused}
-use Rattle.immunity.specs.Judgement.{noRanks}
+use Rattle.immunity.specs.Ranks.{noRanks}
 use Rattle.immunity.specs.Judge.{judgeChecks, Judges}
 use Rattle.immunity.proofs.Judging.{refuses}
 use Rattle.immunity.proofs.judge.judge.Statement.{statement}

@@ -15,7 +15,7 @@ use Rattle.gf2.proofs.Rows.{length-rows}
 use Rattle.matrix.specs.Workspace.{exponents}
 use Rattle.matrix.proofs.Rising.{points-rising}
 use Rattle.matrix.proofs.Stored.{filled-rows}
-use Rattle.immunity.specs.Ranks.{Ready}
+use Rattle.immunity.specs.Ready.{Ready}
 use Rattle.immunity.proofs.Passed.{Passed}
 use Rattle.immunity.proofs.Parts.{part-inside}
 use Rattle.immunity.proofs.Ready.{ready-after}

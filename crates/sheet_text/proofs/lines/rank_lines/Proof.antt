@@ -7,7 +7,7 @@ use lib.ListN.{length, getD}
 use Rattle.cube.specs.Numbers.{upFrom, below}
 use Rattle.cube.proofs.Masks.{below-snoc}
 use Rattle.immunity.specs.declared.judge.Ranks.{Ranks}
-use Rattle.immunity.specs.Judgement.{noRanks}
+use Rattle.immunity.specs.Ranks.{noRanks}
 use Rattle.sheet_text.specs.Text.{joined, Appends}
 use Rattle.sheet_text.specs.Sheet.{rankLine}
 use Rattle.sheet_text.proofs.Appending.{appends-none, appends-next}
