@@ -1,11 +1,11 @@
 -- What the exported operations answer and leave, where that is more than a status and one number.
---   ReadStatus ..   the status, both buffers and the number of taps after Read
---   RankStatus ..   the status, the workspace, the rank and the additions after Rank
---   flat rs         the ranks at each degree as numbers: of the set, of part 1 and of part 0
---   JudgeStatus ..  the status, the buffers, the ranks, the degree, the side and the additions after Judge
---   CertifyStatus .. the status, the workspace and the certificate after Certify
---   inFront part copy  a buffer with a part at its front, as many bytes as it has room for
---   HandOverStatus .. the length of the part that Hand over hands back, and its copy
+--   ReadStatus ..       the status, both buffers and the number of taps after Read
+--   RankStatus ..       the status, the workspace, the rank and the additions after Rank
+--   flat rs             the ranks at each degree as numbers: of the set, of part 1 and of part 0
+--   JudgeStatus ..      the status, the buffers, the ranks, the degree, the side and the additions after Judge
+--   CertifyStatus ..    the status, the workspace and the certificate after Certify
+--   inFront part copy   a buffer with a part at its front, as many bytes as it has room for
+--   HandOverStatus ..   the length of the part that Hand over hands back, and its copy
 use mathlib.Core.Path.{_≡_}
 use mathlib.Core.List.{List, [], _∷_, _++_}
 use mathlib.Core.Option.{some}

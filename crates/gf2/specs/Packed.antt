@@ -1,23 +1,23 @@
 -- Rows packed into numbers of 64 bits, eight numbers to a row: bit c % 64, from the lowest, of number c / 64 is column c.
---   odd a                  the lowest bit of a number
---   bitsOf n a             the n lowest bits of a number, the lowest first
---   unpack ws              the row in a list of numbers
---   unpackRows n ws        the first n rows of a list of numbers
---   unpacked ws            the 1024 rows of the workspace
---   rowOf t j              row j of a list of rows, empty past its end
---   zeroRow                the row of 512 zeros
---   zeros n                n numbers that are zero
---   cut c v                a row with zeros from column c on
---   padded m v             the first m columns of a row that is continued by zeros
---   common v w             the columns where both rows have a one
---   digit b                1 or 0
---   number v               the number whose bits are the row v, the first column lowest
---   pack m v               a row as m numbers of 64 bits
---   Pivots ps t k          ps has the pivots of the first k rows of t, and none of these rows is zero
---   Reduces k row t t′ n   a row of t is reduced by the first k rows, with n additions; t′ is what the rows are then
---   Places ps k s          the rows at the first k places of ps are rows from 512 on, and none is row s
+--   odd a                      the lowest bit of a number
+--   bitsOf n a                 the n lowest bits of a number, the lowest first
+--   unpack ws                  the row in a list of numbers
+--   unpackRows n ws            the first n rows of a list of numbers
+--   unpacked ws                the 1024 rows of the workspace
+--   rowOf t j                  row j of a list of rows, empty past its end
+--   zeroRow                    the row of 512 zeros
+--   zeros n                    n numbers that are zero
+--   cut c v                    a row with zeros from column c on
+--   padded m v                 the first m columns of a row that is continued by zeros
+--   common v w                 the columns where both rows have a one
+--   digit b                    1 or 0
+--   number v                   the number whose bits are the row v, the first column lowest
+--   pack m v                   a row as m numbers of 64 bits
+--   Pivots ps t k              ps has the pivots of the first k rows of t, and none of these rows is zero
+--   Reduces k row t t′ n       a row of t is reduced by the first k rows, with n additions; t′ is what the rows are then
+--   Places ps k s              the rows at the first k places of ps are rows from 512 on, and none is row s
 --   reducedBoth k row s ps t   the rows t after a row was reduced by the first k rows and, for each row added to it, the row at its place of ps was added to row s
---   oneMoreUnless b k      k + 1, or k
+--   oneMoreUnless b k          k + 1, or k
 use mathlib.Core.Path.{_≡_}
 use mathlib.Core.Bool.{Bool, true, false, _&&_}
 use mathlib.Core.Logic.{_≢_}

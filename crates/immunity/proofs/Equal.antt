@@ -1,8 +1,8 @@
 -- Equal ranks: just where no polynomial up to the degree is zero on the part and one somewhere on the set.
---   equal-sums          equal ranks mean that the row of each point of the set is a sum of rows of the part
+--   equal-sums              equal ranks mean that the row of each point of the set is a sum of rows of the part
 --   separates-annihilates   a row that separates the row of a point from the rows of the part is an annihilator
---   zero-orthogonal     a polynomial that is zero on the part is even with its rows
---   equal-none       and that no polynomial up to the degree is zero on the part and one somewhere on the set
+--   zero-orthogonal         a polynomial that is zero on the part is even with its rows
+--   equal-none              and that no polynomial up to the degree is zero on the part and one somewhere on the set
 use mathlib.Core.Path.{_≡_, sym, _∙_}
 use mathlib.Core.Bool.{false, false≢true}
 use mathlib.Core.List.{List, map, List·Memᴰ}

@@ -1,8 +1,7 @@
 -- Rows over points as eight numbers of 64 bits each.
---   bit-number        the bits of a number are those that it was made of
---   certificate-bound each number of Certify's certificate has 64 bits
---   certificate-bit   bit q of a point's row in Certify's certificate
---   named-row         the row that Certify's certificate names for a point
+--   bit-number       the bits of a number are those that it was made of
+--   certificate-bit  bit q of a point's row in Certify's certificate
+--   named-row        the row that Certify's certificate names for a point
 use mathlib.Core.Path.{_≡_, sym, ap, _∙_}
 use mathlib.Core.Bool.{Bool, true, false}
 use mathlib.Core.List.{List, [], _∷_}
@@ -11,15 +10,14 @@ use native.Mathlib.Decide.{decLt}
 use native.Mathlib.Nat.{div-one, zero-div}
 use native.Mathlib.Omega.{arith}
 use lib.Dec.{eqb}
-use lib.ListN.{length, getD, take, drop, length-take, length-map, List·getD-eq-default}
-use lib.Pow.{shr-shr, pow-mono}
+use lib.ListN.{length, take, drop, length-map, List·getD-eq-default}
+use lib.Pow.{shr-shr}
 use lib.Seq.{getD-take, getD-drop}
 use Rattle.cube.specs.Numbers.{below}
 use Rattle.cube.specs.Mask.{points}
 use Rattle.cube.proofs.Masks.{length-from, value-at}
 use Rattle.gf2.specs.Vector.{Row, entry, Same}
 use Rattle.gf2.specs.Packed.{digit, number}
-use Rattle.gf2.proofs.Packing.{number-bound}
 use Rattle.immunity.specs.Part.{part}
 use Rattle.immunity.specs.Certificate.{bitOf, named, sumIf, numberAt, certificate}
 
@@ -43,14 +41,6 @@ bit-number (b ∷ bs) (suc k) =
     let up : suc k ≡ 1 + k = omega arith in
     let e : x / 2 ^ suc k ≡ number bs / 2 ^ k = ap (λ j. x / 2 ^ j) up ∙ sym (shr-shr x 1 k) ∙ ap (λ y. y / 2 ^ k) (high-bits b (number bs)) in
     rw e (bit-number bs k)
-
--- each number of Certify's certificate has 64 bits
-pub certificate-bound : (o : List ℕ) (n : ℕ) (s f : List ℕ) (side d i : ℕ) → i < 4096 → getD (certificate o n s f side d) i 0 < 2 ^ 64
-unfolding certificate
-certificate-bound o n s f side d i l =
-    let x : Row = drop (64 * (i % 8)) (sumIf o n d (points s) (part side s f) (i / 8)) in
-    rw (value-at (numberAt (sumIf o n d (points s) (part side s f))) 4096 i 0 l)
-    (omega (arith, number-bound (take 64 x), pow-mono {i = length (take 64 x)} {j = 64} (omega (arith, length-take 64 x))))
 
 module _ (o : List ℕ) (n : ℕ) (s f : List ℕ) (side d a : ℕ) (small : a < 512) where
   -- the row of the point

@@ -1,9 +1,9 @@
 -- The witness of document 01: it is the one polynomial on new columns that separates the new point from the part.
---   is-unique          at most one polynomial of n taps is a witness
---   is-annihilator         a witness is zero on the part and one somewhere on the set
---   is-same            only the coefficients matter
---   witness-is         where the ranks are unequal, witnessAt is a witness
---   witness-zero       where they are equal, it is zero
+--   is-unique        at most one polynomial of n taps is a witness
+--   is-annihilator   a witness is zero on the part and one somewhere on the set
+--   is-same          only the coefficients matter
+--   witness-is       where the ranks are unequal, witnessAt is a witness
+--   witness-zero     where they are equal, it is zero
 use mathlib.Core.Path.{_≡_, refl, sym, ap, _∙_}
 use mathlib.Core.Bool.{Bool, true, false}
 use mathlib.Core.List.{List, [], _∷_, _++_, map, List·Memᴰ}

@@ -1,13 +1,13 @@
 -- Certificates: for each point of the set outside the part, points of the part whose rows sum to its row.
---   bitOf c a q              bit q of the row of the point a in the certificate c: of its eight numbers from 8 a
---   named c a                this row, over points
---   Names o n d ss ps qs c   c names, for each point of ss outside ps, points of qs whose rows sum to its row, and nothing else
---   Certifies o n d ss ps c  the same with points of ps: what #104 asks of anybody's certificate
---   IsCertificate ..         the same with kept points of ps: the certificate of document 01
---   sumOf o n d ps a         the kept points of ps whose rows sum to the row of a, as a row over points
---   rowIf b x                the row x, or none
---   sumIf ..                 the row of a point in the certificate that Certify writes
---   numberAt x i             number i of the rows x: 64 bits of row i / 8, from bit 64 (i mod 8) on
+--   bitOf c a q                  bit q of the row of the point a in the certificate c: of its eight numbers from 8 a
+--   named c a                    this row, over points
+--   Names o n d ss ps qs c       c names, for each point of ss outside ps, points of qs whose rows sum to its row, and nothing else
+--   Certifies o n d ss ps c      the same with points of ps: a certificate, whoever made it
+--   IsCertificate ..             the same with kept points of ps: the certificate of document 01
+--   sumOf o n d ps a             the kept points of ps whose rows sum to the row of a, as a row over points
+--   rowIf b x                    the row x, or none
+--   sumIf ..                     the row of a point in the certificate that Certify writes
+--   numberAt x i                 number i of the rows x: 64 bits of row i / 8, from bit 64 (i mod 8) on
 --   certificate o n s f side d   the 4,096 numbers that Certify writes
 use mathlib.Core.Bool.{Bool, true, false, not, _&&_}
 use mathlib.Core.Path.{_≡_}

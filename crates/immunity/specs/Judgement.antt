@@ -1,17 +1,17 @@
 -- What Judge answers and leaves. The table is seen through the parts only.
 --   EqualRanks o n s f side d   the set and the side's part have the same rank at degree d
---   differs o n s f d side   at degree d the rank of the side's part is not that of the set
---   eitherDiffers ..         one of the two sides differs
---   ranksAt o n s f d        the ranks of the set, part 1 and part 0 at a degree; all 0 past n
---   reported o n s f         the first degree at which a side differs, or none
---   sideAt .. k              the side for the reported degree: 1 if side 1 differs there, else 0
---   additionsAt              the additions of the three eliminations at a degree
---   summed t xs              the sum of t over a list
---   witnessBytes .. side k   the witness buffer of a side for the reported degree: zeros where the side does not differ
---   Judgement, judged        all of it
---   setRank j d              the rank of the set at degree d that a judgement gives
---   partRank j side d        the rank of a side's part
---   buffer j side            the witness buffer of a side
+--   differs o n s f d side      at degree d the rank of the side's part is not that of the set
+--   eitherDiffers ..            one of the two sides differs
+--   ranksAt o n s f d           the ranks of the set, part 1 and part 0 at a degree; all 0 past n
+--   reported o n s f            the first degree at which a side differs, or none
+--   sideAt .. k                 the side for the reported degree: 1 if side 1 differs there, else 0
+--   additionsAt                 the additions of the three eliminations at a degree
+--   summed t xs                 the sum of t over a list
+--   witnessBytes .. side k      the witness buffer of a side for the reported degree: zeros where the side does not differ
+--   Judgement, judged           all of it
+--   setRank j d                 the rank of the set at degree d that a judgement gives
+--   partRank j side d           the rank of a side's part
+--   buffer j side               the witness buffer of a side
 use mathlib.Core.Path.{_≡_}
 use mathlib.Core.Bool.{Bool, false, not, _||_}
 use mathlib.Core.List.{List, [], _∷_, map}

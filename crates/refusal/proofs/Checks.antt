@@ -5,8 +5,7 @@
 --   pass-none        none stands before place 0
 --   pass-next        one test more holds
 --   broken-refuses   a test that fails after others that hold refuses
---   pass-accepts     where each test holds the outcome is what comes after the checks
-use mathlib.Core.Path.{_≡_, refl}
+use mathlib.Core.Path.{_≡_}
 use mathlib.Core.Bool.{Bool, true, false}
 use mathlib.Core.List.{List, [], _∷_}
 use Prim.Native.Nat.{ℕ, zero, suc, _+_, _<_}
@@ -48,8 +47,3 @@ pub broken-refuses : {A : Type 0} (cs : List Check) (o : Outcome A) (k : ℕ) �
 broken-refuses [] o k l h e = absurd (omega arith)
 broken-refuses (t otherwise r ∷ cs) o zero l h e = rw e
 broken-refuses (t otherwise r ∷ cs) o (suc k) l h e = rw (h 0 (omega arith)) (broken-refuses cs o k (omega arith) (λ j i. h (suc j) (omega arith)) e)
-
--- where each test holds the outcome is what comes after the checks
-pub pass-accepts : {A : Type 0} (cs : List Check) (o : Outcome A) → PassTo cs (length cs) → checked cs o ≡ o
-pass-accepts [] o h = refl
-pass-accepts (t otherwise r ∷ cs) o h = rw (h 0 (omega arith)) (pass-accepts cs o (λ j i. h (suc j) (omega arith)))
