@@ -9,3 +9,6 @@ pub mod Listing
 pub mod Refused
 pub mod Faults
 pub mod Longest
+pub mod Numbers
+pub mod Held
+pub mod Calls

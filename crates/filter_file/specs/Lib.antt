@@ -4,4 +4,5 @@ pub mod Varint
 pub mod PointList
 pub mod File
 pub mod Read
+pub mod Progress
 pub mod Fault

@@ -3,4 +3,6 @@
 // called varints.
 mod varint; // varint.rt: the number at a place of a file
 mod list; // list.rt: the list of points at a place of a file
+mod progress; // progress.rt: n and the lists, from a place of a file on
+mod reader; // reader.rt: the one reader, which draws them all
 pub mod read; // read.rt: Read

@@ -1,0 +1,65 @@
+// The reader: one walks a file from its first byte, and every number is drawn from it.
+// Its functions are thin: each takes it apart and calls a function on slice and place, or hands it back moved. They are
+// proved by hand, since a reader holds a reference; `draw_all`, whose parameters are plain, serves every other caller.
+ghost use mathlib.Core.Path.{_≡_};
+ghost use lib.ListN.{length, drop};
+ghost use Rattle.filter_file.specs.Progress.{tapsOf, listAfter, outcomeOf, beside, Tapped, numbers};
+ghost use Rattle.filter_file.specs.Read.{outcomeOf as readingOf};
+use crate::progress::Progress;
+use crate::progress::list_after;
+use crate::progress::taps_at;
+
+// The bytes of a file, and the place of the next number.
+pub struct Reader<'a> {
+    pub src: &'a [u8],
+    pub at: usize,
+}
+
+impl<'a> Reader<'a> {
+    // A reader at the first byte of a file.
+    pub fn new(src: &'a [u8]) -> Reader<'a>
+        ensures { λ r. ⌜ (r .src ≡ src .entry) × (r .at ≡ 0) ⌝ }
+    {
+        Reader { src, at: 0 }
+    }
+
+    // Draws n.
+    pub fn draw_taps(self) -> Progress
+        ensures { λ r. ⌜ outcomeOf (now (self .entry .src)) r ≡ tapsOf (drop (self .entry .at) (now (self .entry .src))) ⌝ }
+    {
+        taps_at(self.src, self.at)
+    }
+
+    // Draws a list of at least `least` points, and sets each in `out`, if nothing before it is refused.
+    pub fn draw_list(self, before: Progress, least: usize, out: &mut [u8]) -> Progress
+        requires { ⌜ (length (now out) ≡ 512) × Tapped (before .reading) ⌝ }
+        ensures { λ r. ⌜ beside (now (out .exit)) (outcomeOf (now (self .entry .src)) r)
+            ≡ listAfter (readingOf (before .reading)) least (now (out .entry)) (drop (self .entry .at) (now (self .entry .src))) ⌝ }
+    {
+        list_after(self.src, self.at, before.reading, least, out)
+    }
+
+    // The reader, moved past what it has drawn.
+    pub fn past(self, drawn: Progress) -> Reader<'a>
+        ensures { λ r. ⌜ (r .src ≡ self .entry .src) × (r .at ≡ drawn .next) ⌝ }
+    {
+        Reader {
+            src: self.src,
+            at: drawn.next,
+        }
+    }
+}
+
+// Draws every number of a file, each completely before the next: n, the list of S, the list of f.
+pub fn draw_all(file: &[u8], set: &mut [u8], table: &mut [u8]) -> Progress
+    requires { ⌜ (length (now set) ≡ 512) × (length (now table) ≡ 512) ⌝ }
+    ensures { λ r. ⌜ beside (now (table .exit)) (beside (now (set .exit)) (outcomeOf (now (file .entry)) r))
+        ≡ numbers (now (set .entry)) (now (table .entry)) (now (file .entry)) ⌝ }
+{
+    let reader = Reader::new(file);
+    let taps = reader.draw_taps();
+    let reader = reader.past(taps);
+    let points = reader.draw_list(taps, 1, set);
+    let reader = reader.past(points);
+    reader.draw_list(points, 0, table)
+}
