@@ -4,19 +4,18 @@ use mathlib.Core.Path.{_≡_, sym, ap, _∙_, subst}
 use mathlib.Core.List.{List}
 use Prim.Native.Nat.{ℕ, _≤_, _<_}
 use native.Mathlib.Omega.{arith}
-use lib.ListN.{length}
-use lib.Pow.{pow-mono}
 use Rattle.cube.specs.Cube.{size}
 use Rattle.cube.specs.Mask.{member, points}
 use Rattle.cube.specs.BuiltIn.{graded}
 use Rattle.cube.proofs.Taps.{taps-range}
 use Rattle.cube.proofs.BuiltIn.{graded-is-graded}
 use Rattle.gf2.specs.Rank.{Rank}
-use Rattle.refusal.specs.Outcome.{accepted, left}
+use Rattle.refusal.specs.Outcome.{left}
+use Rattle.refusal.proofs.Checks.{PassTo, checked-accepts}
 use Rattle.polynomial.specs.Polynomial.{Polynomial, value}
-use Rattle.polynomial.specs.Convert.{converted, convertOutcome, convertLeaves}
+use Rattle.polynomial.specs.Convert.{converted, convertChecks, convertOutcome, convertLeaves}
 use Rattle.polynomial.proofs.Value.{value-same, value-twice}
-use Rattle.polynomial.proofs.Checks.{Passed, checks-pass, checks-passed}
+use Rattle.polynomial.proofs.Converted.{convert-fits}
 use Rattle.polynomial.proofs.NormalForm.{length-converted, converted-at, converted-formed, converted-twice}
 use Rattle.matrix.specs.Matrix.{rows}
 use Rattle.matrix.proofs.RankOf.{rank-of, rank-accepted}
@@ -27,14 +26,10 @@ use Rattle.immunity.proofs.Given.{set-given, part-given}
 use Rattle.immunity.proofs.Passed.{judge-passed}
 
 module _ (n : ℕ) (b : List ℕ) (e : ConvertAccepts n b) where
-  -- what Convert has checked
-  passed : Passed {A = Unit {0}} n b (accepted tt) tt
+  -- the checks of Convert hold
+  passed : PassTo (convertChecks n b) 3
   unfolding convertOutcome
-  passed = checks-passed n b (accepted tt) tt e
-
-  -- the points fit the buffer
-  fits : size n ≤ length b
-  fits = omega (arith, passed .long, pow-mono (taps-range n .0 (passed .taps) .1))
+  passed = checked-accepts (convertChecks n b) _ tt .0 e .0
 
   -- an acceptance leaves the converted bytes
   leaves : convertLeaves n b ≡ converted n b
@@ -49,7 +44,7 @@ module _ (n : ℕ) (b : List ℕ) (e : ConvertAccepts n b) where
   again : ConvertAccepts n (convertLeaves n b)
   unfolding convertOutcome
   again =
-      rw leaves (checks-pass n (converted n b) (accepted tt) (length-converted n b fits ∙ passed .long) (passed .taps) (converted-formed n b (passed .formed)))
+      rw (leaves, length-converted n b (convert-fits n b passed), passed 0 (omega arith), passed 1 (omega arith), converted-formed n b (passed 2 (omega arith)))
 
 -- from the table of a polynomial to the polynomial
 only : (n : ℕ) (p : Polynomial) (t : List ℕ) → ConvertAccepts n t → ((a : ℕ) → a < size n → member t a ≡ value n p a)
@@ -82,7 +77,7 @@ demand2 = record {
   only-coefficients = only;
   back = λ n b e. (
     again n b e,
-    leaves n (convertLeaves n b) (again n b e) ∙ ap (converted n) (leaves n b e) ∙ converted-twice n b (passed n b e .formed) (fits n b e),
+    leaves n (convertLeaves n b) (again n b e) ∙ ap (converted n) (leaves n b e) ∙ converted-twice n b (passed n b e 2 (omega arith)) (convert-fits n b (passed n b e)),
   );
   rank = λ b n d r e. rank-accepted b n d 8192 r e graded-is-graded;
   set-rank = set-rank;

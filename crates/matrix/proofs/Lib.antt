@@ -11,5 +11,4 @@ pub mod Taking
 pub mod Stored
 pub mod Tallied
 pub mod Ranked
-pub mod Checks
 pub mod RankOf

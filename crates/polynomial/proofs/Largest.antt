@@ -4,7 +4,7 @@
 --   degree-has       what Degree accepts with k has degree k
 use mathlib.Core.Path.{_≡_, refl, sym, ap, _∙_}
 use mathlib.Core.Logic.{_⊎_, inl, inr}
-use mathlib.Core.Bool.{false, not, false≢true}
+use mathlib.Core.Bool.{false, false≢true}
 use mathlib.Core.List.{List, [], _∷_, List·Memᴰ, List·Memᴰ·head, List·Memᴰ·tail, List·Memᴰ·not-nil, List·Memᴰ·cases-cons}
 use Prim.Native.Nat.{ℕ, _≤_, max}
 use native.Mathlib.Decide.{decLt}
@@ -14,12 +14,10 @@ use Rattle.cube.specs.Numbers.{isEmpty}
 use Rattle.cube.specs.Cube.{weight}
 use Rattle.cube.specs.Mask.{member}
 use Rattle.cube.proofs.Masks.{member-points, points-inside}
-use Rattle.refusal.specs.Outcome.{accepted, _otherwise_, checked}
-use Rattle.refusal.specs.declared.Refusal.the-variants.{ZeroPolynomial}
-use Rattle.refusal.proofs.Accepted.{check-passed}
+use Rattle.refusal.specs.Outcome.{accepted}
+use Rattle.refusal.proofs.Checks.{checked-accepts}
 use Rattle.polynomial.specs.Polynomial.{HasDegree}
-use Rattle.polynomial.specs.Degree.{exponents, largest, degreeOutcome}
-use Rattle.polynomial.proofs.Checks.{checks-passed}
+use Rattle.polynomial.specs.Degree.{exponents, largest, degreeChecks, degreeOutcome}
 
 -- no member has more than the largest
 largest-most : (t : ℕ → ℕ) (x : ℕ) (xs : List ℕ) → List·Memᴰ x xs → t x ≤ largest t xs
@@ -48,13 +46,12 @@ largest-member t (y ∷ z ∷ xs) e = go (largest-member t (z ∷ xs) refl)
 pub degree-has : (n : ℕ) (b : List ℕ) (k : ℕ) → degreeOutcome n b ≡ accepted k → HasDegree n (member b) k
 unfolding degreeOutcome
 degree-has n b k e =
-    let passed = checks-passed n b (checked (not (isEmpty (exponents b)) otherwise ZeroPolynomial ∷ []) (accepted (largest weight (exponents b)))) k e in
-    let zero = check-passed (not (isEmpty (exponents b))) ZeroPolynomial [] (accepted (largest weight (exponents b))) k (passed .rest) in
-    let is : largest weight (exponents b) ≡ k = cc (zero .1) in
-    let top = largest-member weight (exponents b) (not-true _ (zero .0)) in
+    let (passed, same) = checked-accepts (degreeChecks n b) (accepted (largest weight (exponents b))) k .0 e in
+    let is : largest weight (exponents b) ≡ k = cc same in
+    let top = largest-member weight (exponents b) (not-true _ (passed 3 (omega arith))) in
     record {
       top = top .0;
-      inside = points-inside n b (passed .formed) (top .0) (top .1);
+      inside = points-inside n b (passed 2 (omega arith)) (top .0) (top .1);
       chosen = member-points b (top .0) .0 (top .1);
       weighs = top .2 ∙ is;
       most = λ u l m. omega (arith, is, largest-most weight u (exponents b) (member-points b u .1 m));

@@ -4,7 +4,6 @@ pub mod Value
 pub mod Lower
 pub mod Halves
 pub mod Parts
-pub mod Checks
 pub mod Converted
 pub mod NormalForm
 pub mod Largest
