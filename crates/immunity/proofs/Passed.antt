@@ -9,19 +9,19 @@ use mathlib.Core.Path.{_≡_, refl, sym, _∙_}
 use mathlib.Core.Bool.{true, false, not, false≢true}
 use mathlib.Core.List.{List, [], _∷_, List·Memᴰ, List·Memᴰ·head}
 use Prim.Native.Nat.{ℕ, _≤_}
-use lib.Dec.{eqb}
+use native.Mathlib.Omega.{arith}
 use lib.ListN.{length}
 use borrow.Author.Tests.{eqb-true, eq-eqb, le-leb, not-true}
 use Rattle.cube.specs.Numbers.{isEmpty}
 use Rattle.cube.specs.Cube.{taps}
 use Rattle.cube.specs.Mask.{wellFormed, points}
 use Rattle.cube.specs.BuiltIn.{graded}
-use Rattle.refusal.specs.Outcome.{Outcome, accepted, Check, _otherwise_, checked}
-use Rattle.refusal.specs.declared.Refusal.the-variants.{Length, Taps, Bytes, EmptySet, RanksDiffer}
-use Rattle.refusal.proofs.Accepted.{check-passed}
+use Rattle.refusal.specs.Outcome.{accepted, _otherwise_, checked}
+use Rattle.refusal.specs.declared.Refusal.the-variants.{RanksDiffer}
+use Rattle.refusal.proofs.Checks.{checked-accepts}
 use Rattle.immunity.specs.Judgement.{Judgement, EqualRanks, differs, judged}
 use Rattle.immunity.specs.Certificate.{certificate}
-use Rattle.immunity.specs.Judge.{judgeOutcome}
+use Rattle.immunity.specs.Judge.{judgeChecks, judgeOutcome}
 use Rattle.immunity.specs.Certify.{certifyOutcome}
 use Rattle.immunity.specs.Demands.{JudgeAccepts, CertifyAccepts}
 
@@ -34,30 +34,20 @@ pub record Passed (n : ℕ) (s f : List ℕ) : Type 0 where
   pub table-formed : wellFormed n f ≡ true
   pub some : isEmpty (points s) ≡ false
 
--- the checks of Judge after those of the lengths
-abbrev later : ℕ → List ℕ → List ℕ → List Check
-later n s f = wellFormed n s otherwise Bytes ∷ wellFormed n f otherwise Bytes ∷ not (isEmpty (points s)) otherwise EmptySet ∷ []
-
 -- what Judge accepts has passed its checks, and is judged as the definition says
 pub judge-passed : (n : ℕ) (s f : List ℕ) (j : Judgement) → JudgeAccepts n s f j → Passed n s f × (judged graded n s f ≡ j)
 unfolding judgeOutcome
 judge-passed n s f j e =
-    let o : Outcome Judgement = accepted (judged graded n s f) in
-    let set = check-passed (eqb (length s) 512) Length (eqb (length f) 512 otherwise Length ∷ taps n otherwise Taps ∷ later n s f) o j e in
-    let table = check-passed (eqb (length f) 512) Length (taps n otherwise Taps ∷ later n s f) o j (set .1) in
-    let tapped = check-passed (taps n) Taps (later n s f) o j (table .1) in
-    let set-bytes = check-passed (wellFormed n s) Bytes (wellFormed n f otherwise Bytes ∷ not (isEmpty (points s)) otherwise EmptySet ∷ []) o j (tapped .1) in
-    let table-bytes = check-passed (wellFormed n f) Bytes (not (isEmpty (points s)) otherwise EmptySet ∷ []) o j (set-bytes .1) in
-    let point = check-passed (not (isEmpty (points s))) EmptySet [] o j (table-bytes .1) in (
+    let (holds, same) = checked-accepts (judgeChecks s f n 8192 512 512) (accepted (judged graded n s f)) j .0 e in (
       record {
-        set-long = eqb-true (length s) 512 (set .0);
-        table-long = eqb-true (length f) 512 (table .0);
-        tapped = tapped .0;
-        set-formed = set-bytes .0;
-        table-formed = table-bytes .0;
-        some = not-true _ (point .0);
+        set-long = eqb-true (length s) 512 (holds 0 (omega arith));
+        table-long = eqb-true (length f) 512 (holds 1 (omega arith));
+        tapped = holds 5 (omega arith);
+        set-formed = holds 6 (omega arith);
+        table-formed = holds 7 (omega arith);
+        some = not-true _ (holds 8 (omega arith));
       },
-      cc (point .1),
+      cc same,
     )
 
 -- what passes the checks is accepted, and judged as the definition says
