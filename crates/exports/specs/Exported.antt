@@ -20,7 +20,7 @@ use Rattle.gf2.specs.Packed.{zeros}
 use Rattle.immunity.specs.declared.judge.Ranks.{Ranks}
 use Rattle.immunity.specs.Judge.{judgeOutcome}
 use Rattle.immunity.specs.Certify.{certifyOutcome, clearedUnless}
-use Rattle.immunity.specs.HandOver.{handed}
+use Rattle.hand_over.specs.HandOver.{handed}
 use Rattle.exports.specs.Status.{statusOf}
 
 -- Read, lent the file: the set s, the table f and the number n at entry and at exit

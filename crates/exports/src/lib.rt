@@ -174,7 +174,7 @@ pub extern "C" fn ekthavrul_hand_over<'a>(
 ) -> usize
     ensures { λ r. ⌜ HandOverStatus n side (now (one .entry)) (now (zero .entry)) (now (copy .entry)) (now (copy .exit)) r ⌝ }
 {
-    let part = immunity::hand_over::hand_over(n, side, one, zero);
+    let part = hand_over::hand_over(n, side, one, zero);
     copy_front(part, copy);
     part.len()
 }

@@ -11,6 +11,5 @@ pub mod Certificate
 pub mod Combination
 pub mod Judge
 pub mod Certify
-pub mod HandOver
 pub mod Demands
 pub mod Cases

@@ -4,4 +4,3 @@ mod witness; // witness.rt: the witness of a side
 pub mod judge; // judge.rt: Judge
 mod combination; // combination.rt: the points whose rows sum to a row, in the workspace
 pub mod certify; // certify.rt: Certify
-pub mod hand_over; // hand_over.rt: Hand over, the part of a buffer that holds a witness

@@ -32,7 +32,7 @@ use Rattle.immunity.specs.declared.judge.Ranks.{Ranks}
 use Rattle.immunity.specs.Ranks.{noRanks}
 use Rattle.immunity.specs.Judgement.{Judgement, judged}
 use Rattle.immunity.specs.Certificate.{bitOf, certificate}
-use Rattle.immunity.specs.HandOver.{ofSide}
+use Rattle.hand_over.specs.HandOver.{ofSide}
 use Rattle.sheet_text.specs.Text.{Bytes, ascii, newline, decimal, field, labelled, joined, fields}
 
 -- n / 2 rounded up

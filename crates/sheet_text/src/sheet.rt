@@ -6,7 +6,7 @@ ghost use Rattle.cube.specs.BuiltIn.{graded};
 ghost use Rattle.io.specs.Counts.{Counts};
 ghost use Rattle.immunity.specs.Judgement.{judged};
 ghost use Rattle.immunity.specs.Certificate.{certificate as certificateOf};
-ghost use Rattle.immunity.specs.HandOver.{ofSide};
+ghost use Rattle.hand_over.specs.HandOver.{ofSide};
 ghost use Rattle.immunity.specs.Demands.{JudgeAccepts, CertifyAccepts};
 ghost use Rattle.sheet_text.specs.Text.{Appends};
 ghost use Rattle.sheet_text.specs.Sheet.{degreeLine, sideSums, sums, filterSheet, sheet as sheetOf};

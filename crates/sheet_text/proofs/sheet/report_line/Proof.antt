@@ -2,7 +2,7 @@ use borrow.Author.Needs.{needs}
 use mathlib.Core.Path.{sym, subst}
 use Prim.Native.Nat.{_+_, _≤_}
 use borrow.Author.Tests.{eq-eqb, ne-eqb}
-use Rattle.immunity.specs.HandOver.{oneIf}
+use Rattle.hand_over.specs.HandOver.{oneIf}
 use Rattle.sheet_text.specs.Text.{Appends}
 use Rattle.sheet_text.specs.Sheet.{degreeLine}
 use Rattle.sheet_text.proofs.sheet.report_line.Statement.{statement}

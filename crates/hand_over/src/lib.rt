@@ -1,6 +1,6 @@
-// Hand over: the part of a witness buffer that holds the witness of a side.
+// Hand over: document 01, 'Judgement'. The part of a witness buffer that holds the witness of a side.
 ghost use mathlib.Core.Path.{_≡_};
-ghost use Rattle.immunity.specs.HandOver.{handed};
+ghost use Rattle.hand_over.specs.HandOver.{handed};
 use cube::POINTS;
 use cube::size;
 use cube::valid_taps;

@@ -6,9 +6,9 @@ use borrow.Author.Needs.{needs}
 use borrow.Author.Tests.{lt-leb, le-leb, eq-eqb, ne-eqb, not-true, not-false}
 use Rattle.cube.specs.Cube.{size, taps}
 use Rattle.cube.proofs.Taps.{taps-range}
-use Rattle.immunity.specs.HandOver.{right}
-use Rattle.immunity.proofs.hand_over.hand_over.Statement.{statement}
-use Rattle.immunity.proofs.hand_over.hand_over.Tie as tie
+use Rattle.hand_over.specs.HandOver.{right}
+use Rattle.hand_over.proofs.hand_over.Statement.{statement}
+use Rattle.hand_over.proofs.hand_over.Tie as tie
 
 returns : tie.Need-returns
 returns c = simp (ne-eqb _ _ (c .before .if1 .taken))

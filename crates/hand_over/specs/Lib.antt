@@ -1,0 +1,2 @@
+-- What Hand over hands back.
+pub mod HandOver
