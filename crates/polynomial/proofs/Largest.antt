@@ -1,6 +1,4 @@
 -- Degree finds the degree.
---   largest-most     no member has more than the largest
---   largest-member   some member of a list that is not empty has the largest
 --   degree-has       what Degree accepts with k has degree k
 use mathlib.Core.Path.{_≡_, refl, sym, ap, _∙_}
 use mathlib.Core.Logic.{_⊎_, inl, inr}

@@ -40,8 +40,8 @@ use Rattle.filter_file.specs.declared.reader.Reader.{Reader}
 use Rattle.filter_file.specs.declared.progress.Progress.{Progress}
 use Rattle.filter_file.specs.Progress.{outcomeOf, beside, numbers}
 use Rattle.filter_file.proofs.Numbers.{numbers-drawn, taps-tapped, list-tapped}
-use Rattle.filter_file.proofs.Held.{own-twice, typed-local}
-use Rattle.filter_file.proofs.Calls.{New, DrawTaps, DrawList, Past, Held, Token, Tokens, readerAt, calls-new, calls-taps, calls-past, calls-list}
+use Rattle.filter_file.proofs.Held.{Token, Tokens, own-twice, typed-local}
+use Rattle.filter_file.proofs.Calls.{New, DrawTaps, DrawList, Past, Held, readerAt, calls-new, calls-taps, calls-past, calls-list}
 use Rattle.filter_file.proofs.progress.Progress as S
 use Rattle.filter_file.proofs.progress.Progress.Laws as S′
 use Rattle.filter_file.proofs.reader.Reader.new.Symbol as new-def
