@@ -18,9 +18,10 @@
 --   distinct-filter   what a test keeps of a distinct list is distinct
 --   count-listed      a distinct list of numbers below m is as long as the count of its numbers
 --   member-all        m distinct numbers below m are all of them
+--   some-member       a list that is not empty has a member
 use mathlib.Core.Path.{_≡_, refl, sym, ap, _∙_}
 use mathlib.Core.Logic.{_↔_, _⊎_, inl, inr}
-use mathlib.Core.Bool.{Bool, true, false, _&&_, _||_, or-true, false≢true}
+use mathlib.Core.Bool.{Bool, true, false, _&&_, _||_, or-true, false≢true, not}
 use mathlib.Core.List.{List, [], _∷_, _++_, append-nil, List·Memᴰ, List·Memᴰ·head, List·Memᴰ·tail, List·Memᴰ·not-nil, List·Memᴰ·cases-cons}
 use Prim.Native.Nat.{ℕ, zero, suc, _+_, _≤_, _<_}
 use native.Mathlib.Numerals.{add-one}
@@ -29,7 +30,7 @@ use lib.Dec.{eqb}
 use lib.ListN.{length, getD, take}
 use lib.Seq.{take-suc}
 use borrow.Author.Tests.{eqb-true, eq-eqb}
-use Rattle.cube.specs.Numbers.{consIf, filter, lists, Inside}
+use Rattle.cube.specs.NumberLists.{consIf, select, lists, Inside, isEmpty}
 use Rattle.cube.proofs.Count.{countBelow, count-none, count-more, count-full}
 
 -- both of two tests hold
@@ -76,102 +77,102 @@ place-member (x ∷ xs) zero h = List·Memᴰ·head refl
 place-member (x ∷ xs) (suc i) h = List·Memᴰ·tail (place-member xs i (omega arith))
 
 -- what holds of a list with a first number kept or left out
-pub filter-cases : (P : List ℕ → Type 0) (t : ℕ → Bool) (x : ℕ) (xs : List ℕ)
-    → (t x ≡ true → P (x ∷ filter t xs)) → (t x ≡ false → P (filter t xs)) → P (filter t (x ∷ xs))
-unfolding filter consIf
-filter-cases P t x xs f g = go (t x) refl
+pub select-cases : (P : List ℕ → Type 0) (t : ℕ → Bool) (x : ℕ) (xs : List ℕ)
+    → (t x ≡ true → P (x ∷ select t xs)) → (t x ≡ false → P (select t xs)) → P (select t (x ∷ xs))
+unfolding select consIf
+select-cases P t x xs f g = go (t x) refl
   where
-    go : (b : Bool) → t x ≡ b → P (consIf b x (filter t xs))
+    go : (b : Bool) → t x ≡ b → P (consIf b x (select t xs))
     go true e = f e
     go false e = g e
 
 -- one member more, kept or not
-filter-step : (t : ℕ → Bool) (x : ℕ) (xs : List ℕ) (u : ℕ) → (List·Memᴰ u (filter t xs) ↔ ((t u ≡ true) × List·Memᴰ u xs))
-    → List·Memᴰ u (filter t (x ∷ xs)) ↔ ((t u ≡ true) × List·Memᴰ u (x ∷ xs))
-filter-step t x xs u later = filter-cases (λ l. List·Memᴰ u l ↔ ((t u ≡ true) × List·Memᴰ u (x ∷ xs))) t x xs
+select-step : (t : ℕ → Bool) (x : ℕ) (xs : List ℕ) (u : ℕ) → (List·Memᴰ u (select t xs) ↔ ((t u ≡ true) × List·Memᴰ u xs))
+    → List·Memᴰ u (select t (x ∷ xs)) ↔ ((t u ≡ true) × List·Memᴰ u (x ∷ xs))
+select-step t x xs u later = select-cases (λ l. List·Memᴰ u l ↔ ((t u ≡ true) × List·Memᴰ u (x ∷ xs))) t x xs
     (λ e. (λ m. first e (List·Memᴰ·cases-cons m), λ p. front (p .0) (List·Memᴰ·cases-cons (p .1))))
     (λ e. (λ m. more (later .0 m), λ p. rest e (p .0) (List·Memᴰ·cases-cons (p .1))))
   where
     more : (t u ≡ true) × List·Memᴰ u xs → (t u ≡ true) × List·Memᴰ u (x ∷ xs)
     more (p, m) = (p, List·Memᴰ·tail m)
 
-    first : t x ≡ true → (u ≡ x) ⊎ List·Memᴰ u (filter t xs) → (t u ≡ true) × List·Memᴰ u (x ∷ xs)
+    first : t x ≡ true → (u ≡ x) ⊎ List·Memᴰ u (select t xs) → (t u ≡ true) × List·Memᴰ u (x ∷ xs)
     first e (inl q) = (ap t q ∙ e, List·Memᴰ·head q)
     first e (inr m) = more (later .0 m)
 
-    front : t u ≡ true → (u ≡ x) ⊎ List·Memᴰ u xs → List·Memᴰ u (x ∷ filter t xs)
+    front : t u ≡ true → (u ≡ x) ⊎ List·Memᴰ u xs → List·Memᴰ u (x ∷ select t xs)
     front p (inl q) = List·Memᴰ·head q
     front p (inr m) = List·Memᴰ·tail (later .1 (p, m))
 
-    rest : t x ≡ false → t u ≡ true → (u ≡ x) ⊎ List·Memᴰ u xs → List·Memᴰ u (filter t xs)
+    rest : t x ≡ false → t u ≡ true → (u ≡ x) ⊎ List·Memᴰ u xs → List·Memᴰ u (select t xs)
     rest e p (inl q) = absurd (false≢true (sym e ∙ ap t (sym q) ∙ p))
     rest e p (inr m) = later .1 (p, m)
 
 -- the members that a test keeps
-pub member-filter : (t : ℕ → Bool) (xs : List ℕ) (u : ℕ) → List·Memᴰ u (filter t xs) ↔ ((t u ≡ true) × List·Memᴰ u xs)
-unfolding filter
-member-filter t [] u = (λ m. absurd (List·Memᴰ·not-nil m), λ p. absurd (List·Memᴰ·not-nil (p .1)))
-member-filter t (x ∷ xs) u = filter-step t x xs u (member-filter t xs u)
+pub member-select : (t : ℕ → Bool) (xs : List ℕ) (u : ℕ) → List·Memᴰ u (select t xs) ↔ ((t u ≡ true) × List·Memᴰ u xs)
+unfolding select
+member-select t [] u = (λ m. absurd (List·Memᴰ·not-nil m), λ p. absurd (List·Memᴰ·not-nil (p .1)))
+member-select t (x ∷ xs) u = select-step t x xs u (member-select t xs u)
 
 -- of two tests the second of which is implied by the first, the first decides
-pub filter-filter : (t r : ℕ → Bool) (xs : List ℕ) → ((u : ℕ) → t u ≡ true → r u ≡ true) → filter t (filter r xs) ≡ filter t xs
-unfolding filter consIf
-filter-filter t r [] h = refl
-filter-filter t r (x ∷ xs) h = go (r x) refl (t x) refl (filter-filter t r xs h)
+pub select-select : (t r : ℕ → Bool) (xs : List ℕ) → ((u : ℕ) → t u ≡ true → r u ≡ true) → select t (select r xs) ≡ select t xs
+unfolding select consIf
+select-select t r [] h = refl
+select-select t r (x ∷ xs) h = go (r x) refl (t x) refl (select-select t r xs h)
   where
-    go : (b : Bool) → r x ≡ b → (c : Bool) → t x ≡ c → filter t (filter r xs) ≡ filter t xs → filter t (consIf b x (filter r xs)) ≡ consIf c x (filter t xs)
+    go : (b : Bool) → r x ≡ b → (c : Bool) → t x ≡ c → select t (select r xs) ≡ select t xs → select t (consIf b x (select r xs)) ≡ consIf c x (select t xs)
     go true e c q later = rw q (ap (consIf c x) later)
     go false e true q later = absurd (false≢true (sym e ∙ h x q))
     go false e false q later = later
 
 -- a test that each passes keeps all
-pub filter-all : (t : ℕ → Bool) (xs : List ℕ) → ((u : ℕ) → List·Memᴰ u xs → t u ≡ true) → filter t xs ≡ xs
-unfolding filter consIf
-filter-all t [] h = refl
-filter-all t (x ∷ xs) h = rw (h x (List·Memᴰ·head refl)) (ap (λ l. x ∷ l) (filter-all t xs (λ u m. h u (List·Memᴰ·tail m))))
+pub select-all : (t : ℕ → Bool) (xs : List ℕ) → ((u : ℕ) → List·Memᴰ u xs → t u ≡ true) → select t xs ≡ xs
+unfolding select consIf
+select-all t [] h = refl
+select-all t (x ∷ xs) h = rw (h x (List·Memᴰ·head refl)) (ap (λ l. x ∷ l) (select-all t xs (λ u m. h u (List·Memᴰ·tail m))))
 
 -- no more are kept than there are
-pub length-filter : (t : ℕ → Bool) (xs : List ℕ) → length (filter t xs) ≤ length xs
-unfolding filter
-length-filter t [] = omega arith
-length-filter t (x ∷ xs) =
-    let later : length (filter t xs) ≤ length xs = length-filter t xs in
-    filter-cases (λ l. length l ≤ suc (length xs)) t x xs (λ e. omega (arith, later)) (λ e. omega (arith, later))
+pub length-select : (t : ℕ → Bool) (xs : List ℕ) → length (select t xs) ≤ length xs
+unfolding select
+length-select t [] = omega arith
+length-select t (x ∷ xs) =
+    let later : length (select t xs) ≤ length xs = length-select t xs in
+    select-cases (λ l. length l ≤ suc (length xs)) t x xs (λ e. omega (arith, later)) (λ e. omega (arith, later))
 
 -- fewer are kept where a member does not pass
-pub filter-fewer : (t : ℕ → Bool) (xs : List ℕ) {a : ℕ} → List·Memᴰ a xs → t a ≡ false → length (filter t xs) < length xs
-filter-fewer t [] m e = absurd (List·Memᴰ·not-nil m)
-filter-fewer t (x ∷ xs) (List·Memᴰ·head i) e =
-    filter-cases (λ l. length l < suc (length xs)) t x xs (λ f. absurd (false≢true (sym e ∙ ap t i ∙ f))) (λ f. omega (arith, length-filter t xs))
-filter-fewer t (x ∷ xs) (List·Memᴰ·tail m) e =
-    let later : length (filter t xs) < length xs = filter-fewer t xs m e in
-    filter-cases (λ l. length l < suc (length xs)) t x xs (λ f. omega (arith, later)) (λ f. omega (arith, later))
+pub select-fewer : (t : ℕ → Bool) (xs : List ℕ) {a : ℕ} → List·Memᴰ a xs → t a ≡ false → length (select t xs) < length xs
+select-fewer t [] m e = absurd (List·Memᴰ·not-nil m)
+select-fewer t (x ∷ xs) (List·Memᴰ·head i) e =
+    select-cases (λ l. length l < suc (length xs)) t x xs (λ f. absurd (false≢true (sym e ∙ ap t i ∙ f))) (λ f. omega (arith, length-select t xs))
+select-fewer t (x ∷ xs) (List·Memᴰ·tail m) e =
+    let later : length (select t xs) < length xs = select-fewer t xs m e in
+    select-cases (λ l. length l < suc (length xs)) t x xs (λ f. omega (arith, later)) (λ f. omega (arith, later))
 
 -- what a test keeps of a list with one number more at its end
-pub filter-snoc : (t : ℕ → Bool) (xs : List ℕ) (x : ℕ) → filter t (xs ++ (x ∷ [])) ≡ filter t xs ++ consIf (t x) x []
-unfolding filter consIf
-filter-snoc t [] x = refl
-filter-snoc t (y ∷ xs) x = go (t y) (filter-snoc t xs x)
+pub select-snoc : (t : ℕ → Bool) (xs : List ℕ) (x : ℕ) → select t (xs ++ (x ∷ [])) ≡ select t xs ++ consIf (t x) x []
+unfolding select consIf
+select-snoc t [] x = refl
+select-snoc t (y ∷ xs) x = go (t y) (select-snoc t xs x)
   where
-    go : (b : Bool) → filter t (xs ++ (x ∷ [])) ≡ filter t xs ++ consIf (t x) x []
-        → consIf b y (filter t (xs ++ (x ∷ []))) ≡ consIf b y (filter t xs) ++ consIf (t x) x []
+    go : (b : Bool) → select t (xs ++ (x ∷ [])) ≡ select t xs ++ consIf (t x) x []
+        → consIf b y (select t (xs ++ (x ∷ []))) ≡ consIf b y (select t xs) ++ consIf (t x) x []
     go true later = ap (λ l. y ∷ l) later
     go false later = later
 
 -- what a test keeps of the first numbers of a list, one number more
-filter-take : (t : ℕ → Bool) (xs : List ℕ) (i : ℕ) → i < length xs → filter t (take (i + 1) xs) ≡ filter t (take i xs) ++ consIf (t (getD xs i 0)) (getD xs i 0) []
-filter-take t xs i l = ap (λ k. filter t (take k xs)) (add-one i) ∙ ap (filter t) (take-suc xs i 0 l) ∙ filter-snoc t (take i xs) (getD xs i 0)
+select-take : (t : ℕ → Bool) (xs : List ℕ) (i : ℕ) → i < length xs → select t (take (i + 1) xs) ≡ select t (take i xs) ++ consIf (t (getD xs i 0)) (getD xs i 0) []
+select-take t xs i l = ap (λ k. select t (take k xs)) (add-one i) ∙ ap (select t) (take-suc xs i 0 l) ∙ select-snoc t (take i xs) (getD xs i 0)
 
 -- the number passes
-pub filter-take-yes : (t : ℕ → Bool) (xs : List ℕ) (i : ℕ) → i < length xs → t (getD xs i 0) ≡ true
-    → filter t (take (i + 1) xs) ≡ filter t (take i xs) ++ (getD xs i 0 ∷ [])
+pub select-take-yes : (t : ℕ → Bool) (xs : List ℕ) (i : ℕ) → i < length xs → t (getD xs i 0) ≡ true
+    → select t (take (i + 1) xs) ≡ select t (take i xs) ++ (getD xs i 0 ∷ [])
 unfolding consIf
-filter-take-yes t xs i l e = filter-take t xs i l ∙ ap (λ z. filter t (take i xs) ++ consIf z (getD xs i 0) []) e
+select-take-yes t xs i l e = select-take t xs i l ∙ ap (λ z. select t (take i xs) ++ consIf z (getD xs i 0) []) e
 
 -- it does not
-pub filter-take-no : (t : ℕ → Bool) (xs : List ℕ) (i : ℕ) → i < length xs → t (getD xs i 0) ≡ false → filter t (take (i + 1) xs) ≡ filter t (take i xs)
+pub select-take-no : (t : ℕ → Bool) (xs : List ℕ) (i : ℕ) → i < length xs → t (getD xs i 0) ≡ false → select t (take (i + 1) xs) ≡ select t (take i xs)
 unfolding consIf
-filter-take-no t xs i l e = filter-take t xs i l ∙ ap (λ z. filter t (take i xs) ++ consIf z (getD xs i 0) []) e ∙ append-nil (filter t (take i xs))
+select-take-no t xs i l e = select-take t xs i l ∙ ap (λ z. select t (take i xs) ++ consIf z (getD xs i 0) []) e ∙ append-nil (select t (take i xs))
 
 -- no number stands twice
 abbrev pub Distinct : List ℕ → Type 0
@@ -187,12 +188,12 @@ distinct-places (x ∷ xs) h = (
 )
 
 -- what a test keeps of a distinct list is distinct
-pub distinct-filter : (t : ℕ → Bool) (xs : List ℕ) → Distinct xs → Distinct (filter t xs)
-unfolding filter
-distinct-filter t [] h = tt
-distinct-filter t (x ∷ xs) h =
-    let rest : Distinct (filter t xs) = distinct-filter t xs (h .1) in
-    filter-cases Distinct t x xs (λ e. (λ m. h .0 (member-filter t xs x .0 m .1), rest)) (λ e. rest)
+pub distinct-select : (t : ℕ → Bool) (xs : List ℕ) → Distinct xs → Distinct (select t xs)
+unfolding select
+distinct-select t [] h = tt
+distinct-select t (x ∷ xs) h =
+    let rest : Distinct (select t xs) = distinct-select t xs (h .1) in
+    select-cases Distinct t x xs (λ e. (λ m. h .0 (member-select t xs x .0 m .1), rest)) (λ e. rest)
 
 -- a distinct list of numbers below m is as long as the count of its numbers
 pub count-listed : (m : ℕ) (xs : List ℕ) → Distinct xs → Inside m xs → countBelow m (lists xs) ≡ length xs
@@ -204,3 +205,9 @@ count-listed m (x ∷ xs) h l =
 -- m distinct numbers below m are all of them
 pub member-all : (m : ℕ) (xs : List ℕ) → length xs ≡ m → Distinct xs → Inside m xs → (u : ℕ) → u < m → List·Memᴰ u xs
 member-all m xs e h l u i = lists-member xs u .0 (count-full m (lists xs) (count-listed m xs h l ∙ e) u i)
+
+-- a list that is not empty has a member
+pub some-member : (xs : List ℕ) → isEmpty xs ≡ false → (a : ℕ) × List·Memᴰ a xs
+unfolding isEmpty
+some-member [] e = absurd (false≢true (sym e))
+some-member (x ∷ xs) e = (x, List·Memᴰ·head refl)

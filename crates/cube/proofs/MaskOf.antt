@@ -15,9 +15,9 @@ use lib.Dec.{eqb}
 use lib.ListN.{length, getD, set, replicate, length-map, length-set, length-replicate, getD-replicate, List·getD-eq-default}
 use lib.Seq.{getD-set-same, getD-set-other, ext-getD}
 use borrow.Author.Tests.{eqb-true, eqb-false}
-use Rattle.cube.specs.Numbers.{below, consIf, filter, lists}
+use Rattle.cube.specs.NumberLists.{below, consIf, select, lists}
 use Rattle.cube.specs.Cube.{size}
-use Rattle.cube.specs.Mask.{wellFormed, member, points, byte, mark, mask}
+use Rattle.cube.specs.Mask.{wellFormed, member, points, byte, withOnes, mask}
 use Rattle.cube.proofs.Masks.{member-from, length-from, value-at, bytes-formed, mask-member}
 
 -- it has 512 bytes
@@ -54,10 +54,10 @@ oneOr true x = 1
 oneOr false x = x
 
 -- the byte at a place: 1 for a marked number, else as it was
-mark-at : (us b : List ℕ) (a : ℕ) → a < length b → getD (mark us b) a 0 ≡ oneOr (lists us a) (getD b a 0)
-unfolding mark lists
-mark-at [] b a h = refl
-mark-at (u ∷ us) b a h = mark-at us (set b u 1) a (rw length-set h) ∙ go (eqb u a) refl (lists us a)
+with-ones-at : (us b : List ℕ) (a : ℕ) → a < length b → getD (withOnes us b) a 0 ≡ oneOr (lists us a) (getD b a 0)
+unfolding withOnes lists
+with-ones-at [] b a h = refl
+with-ones-at (u ∷ us) b a h = with-ones-at us (set b u 1) a (rw length-set h) ∙ go (eqb u a) refl (lists us a)
   where
     go : (t : Bool) → eqb u a ≡ t → (c : Bool) → oneOr c (getD (set b u 1) a 0) ≡ oneOr (t || c) (getD b a 0)
     go true e true = refl
@@ -66,34 +66,34 @@ mark-at (u ∷ us) b a h = mark-at us (set b u 1) a (rw length-set h) ∙ go (eq
     go false e false = getD-set-other b u a 1 0 (λ q. eqb-false u a e (sym q))
 
 -- marking changes no length
-length-mark : (us b : List ℕ) → length (mark us b) ≡ length b
-unfolding mark
-length-mark [] b = refl
-length-mark (u ∷ us) b = length-mark us (set b u 1) ∙ length-set b u 1
+length-with-ones : (us b : List ℕ) → length (withOnes us b) ≡ length b
+unfolding withOnes
+length-with-ones [] b = refl
+length-with-ones (u ∷ us) b = length-with-ones us (set b u 1) ∙ length-set b u 1
 
 -- zeros that are marked at numbers are the mask of the numbers
-pub mark-mask : (us : List ℕ) → mark us (replicate 512 0) ≡ mask (lists us)
-mark-mask us = ext-getD 0 (mark us (replicate 512 0)) (mask (lists us)) (long ∙ sym (length-mask (lists us))) same
+pub with-ones-mask : (us : List ℕ) → withOnes us (replicate 512 0) ≡ mask (lists us)
+with-ones-mask us = ext-getD 0 (withOnes us (replicate 512 0)) (mask (lists us)) (long ∙ sym (length-mask (lists us))) same
   where
-    long : length (mark us (replicate 512 0)) ≡ 512
-    long = length-mark us (replicate 512 0) ∙ length-replicate {A = ℕ} 512 0
+    long : length (withOnes us (replicate 512 0)) ≡ 512
+    long = length-with-ones us (replicate 512 0) ∙ length-replicate {A = ℕ} 512 0
 
     one : (t : Bool) → oneOr t 0 ≡ byte t
     one true = refl
     one false = refl
 
-    same : (a : ℕ) → a < length (mark us (replicate 512 0)) → getD (mark us (replicate 512 0)) a 0 ≡ getD (mask (lists us)) a 0
+    same : (a : ℕ) → a < length (withOnes us (replicate 512 0)) → getD (withOnes us (replicate 512 0)) a 0 ≡ getD (mask (lists us)) a 0
     same a h =
         let l : a < 512 = omega (arith, long) in
-        mark-at us (replicate 512 0) a (rw (length-replicate {A = ℕ} 512 0) l)
+        with-ones-at us (replicate 512 0) a (rw (length-replicate {A = ℕ} 512 0) l)
         ∙ rw (getD-replicate {A = ℕ} 512 a 0 0 l, value-at (λ v. byte (lists us v)) 512 a 0 l) (one (lists us a))
 
 -- tests that agree on a list keep the same of it
-pub filter-same : (t r : ℕ → Bool) (xs : List ℕ) → ((u : ℕ) → List·Memᴰ u xs → t u ≡ r u) → filter t xs ≡ filter r xs
-unfolding filter
-filter-same t r [] h = refl
-filter-same t r (x ∷ xs) h = rw (h x (List·Memᴰ·head refl)) (ap (consIf (r x) x) (filter-same t r xs (λ u m. h u (List·Memᴰ·tail m))))
+pub select-same : (t r : ℕ → Bool) (xs : List ℕ) → ((u : ℕ) → List·Memᴰ u xs → t u ≡ r u) → select t xs ≡ select r xs
+unfolding select
+select-same t r [] h = refl
+select-same t r (x ∷ xs) h = rw (h x (List·Memᴰ·head refl)) (ap (consIf (r x) x) (select-same t r xs (λ u m. h u (List·Memᴰ·tail m))))
 
 -- its points are the numbers below 512 that pass
-pub points-mask : (t : ℕ → Bool) → points (mask t) ≡ filter t (below 512)
-points-mask t = ap (λ k. filter (member (mask t)) (below k)) (length-mask t) ∙ filter-same (member (mask t)) t (below 512) (λ u m. mask-member t u (omega (arith, member-from 0 512 u .0 m .1)))
+pub points-mask : (t : ℕ → Bool) → points (mask t) ≡ select t (below 512)
+points-mask t = ap (λ k. select (member (mask t)) (below k)) (length-mask t) ∙ select-same (member (mask t)) t (below 512) (λ u m. mask-member t u (omega (arith, member-from 0 512 u .0 m .1)))

@@ -19,9 +19,10 @@
 --   byte-member     a byte that is 0 or 1 is that of its bit
 --   points-inside   those of a well formed mask are points of n taps
 --   mask-member     a mask marks what passes its test
+--   points-fewer    a mask that does not mark a number below 512 marks fewer than 512
 use mathlib.Core.Path.{_≡_, refl, ap, _∙_}
 use mathlib.Core.Logic.{_↔_, _⊎_, inl, inr, ⊎-elim}
-use mathlib.Core.Bool.{Bool, true, false}
+use mathlib.Core.Bool.{Bool, true, false, not}
 use mathlib.Core.List.{List, [], _∷_, _++_, map, append-nil, List·Memᴰ, List·Memᴰ·head, List·Memᴰ·tail, List·Memᴰ·not-nil, List·Memᴰ·cases-cons}
 use Prim.Native.Nat.{ℕ, zero, suc, _+_, _-_, _≤_, _<_}
 use native.Mathlib.Omega.{arith}
@@ -31,10 +32,10 @@ use native.Mathlib.Numerals.{add-one}
 use lib.Dec.{eqb, leb}
 use lib.ListN.{length, getD, List·getD-eq-default}
 use borrow.Author.Tests.{eqb-true, leb-true, eq-eqb, ne-eqb, le-leb}
-use Rattle.cube.specs.Numbers.{upFrom, below, consIf, filter, Inside}
+use Rattle.cube.specs.NumberLists.{upFrom, below, consIf, select, Inside}
 use Rattle.cube.specs.Cube.{size}
 use Rattle.cube.specs.Mask.{bitsThenZeros, wellFormed, member, marked, points, byte, mask}
-use Rattle.cube.proofs.Listed.{and-both, member-filter, filter-snoc}
+use Rattle.cube.proofs.Listed.{and-both, member-select, select-snoc, select-fewer}
 
 -- the numbers from one on
 pub member-from : (u k v : ℕ) → List·Memᴰ v (upFrom u k) ↔ ((u ≤ v) × (v < u + k))
@@ -74,18 +75,18 @@ pub below-snoc : (a : ℕ) → below (a + 1) ≡ below a ++ (a ∷ [])
 below-snoc a = ap below (add-one a) ∙ from-snoc 0 a ∙ ap (λ x. below a ++ (x ∷ [])) (zero-add a)
 
 -- what a test keeps of the numbers below a bound, one number more
-pub filter-below : (t : ℕ → Bool) (a : ℕ) → filter t (below (a + 1)) ≡ filter t (below a) ++ consIf (t a) a []
-filter-below t a = ap (filter t) (below-snoc a) ∙ filter-snoc t (below a) a
+pub select-below : (t : ℕ → Bool) (a : ℕ) → select t (below (a + 1)) ≡ select t (below a) ++ consIf (t a) a []
+select-below t a = ap (select t) (below-snoc a) ∙ select-snoc t (below a) a
 
 -- the next number passes
-pub filter-yes : (t : ℕ → Bool) (a : ℕ) → t a ≡ true → filter t (below (a + 1)) ≡ filter t (below a) ++ (a ∷ [])
+pub select-yes : (t : ℕ → Bool) (a : ℕ) → t a ≡ true → select t (below (a + 1)) ≡ select t (below a) ++ (a ∷ [])
 unfolding consIf
-filter-yes t a e = filter-below t a ∙ ap (λ z. filter t (below a) ++ consIf z a []) e
+select-yes t a e = select-below t a ∙ ap (λ z. select t (below a) ++ consIf z a []) e
 
 -- the next number does not pass
-pub filter-no : (t : ℕ → Bool) (a : ℕ) → t a ≡ false → filter t (below (a + 1)) ≡ filter t (below a)
+pub select-no : (t : ℕ → Bool) (a : ℕ) → t a ≡ false → select t (below (a + 1)) ≡ select t (below a)
 unfolding consIf
-filter-no t a e = filter-below t a ∙ ap (λ z. filter t (below a) ++ consIf z a []) e ∙ append-nil (filter t (below a))
+select-no t a e = select-below t a ∙ ap (λ z. select t (below a) ++ consIf z a []) e ∙ append-nil (select t (below a))
 
 -- a value for each of them, by place
 values-from : {B : Type 0} (f : ℕ → B) (u k i : ℕ) (d : B) → i < k → getD (map f (upFrom u k)) i d ≡ f (u + i)
@@ -100,35 +101,35 @@ value-at f m i d l = values-from f 0 m i d l ∙ ap f (zero-add i)
 
 -- the numbers from i on that a mask marks
 abbrev pub markedFrom : List ℕ → ℕ → List ℕ
-markedFrom b i = filter (member b) (upFrom i (length b - i))
+markedFrom b i = select (member b) (upFrom i (length b - i))
 
 -- from 0 on they are all
 pub marked-all : (b : List ℕ) → marked b ≡ markedFrom b 0
-marked-all b = let z : length b ≡ length b - 0 = omega arith in ap (λ k. filter (member b) (below k)) z
+marked-all b = let z : length b ≡ length b - 0 = omega arith in ap (λ k. select (member b) (below k)) z
 
 module _ (b : List ℕ) (i : ℕ) where
   -- a marked number is the first of them
   pub marked-here : i < length b → getD b i 0 ≡ 1 → markedFrom b i ≡ i ∷ markedFrom b (i + 1)
-  unfolding upFrom filter consIf
+  unfolding upFrom select consIf
   marked-here l e =
       let z : length b - i ≡ suc (length b - (i + 1)) = omega arith in
       rw (z, eq-eqb (getD b i 0) 1 e, add-one)
 
   -- one that is not marked is passed over
   pub marked-later : i < length b → (getD b i 0 ≡ 1 → ⊥) → markedFrom b i ≡ markedFrom b (i + 1)
-  unfolding upFrom filter consIf
+  unfolding upFrom select consIf
   marked-later l e =
       let z : length b - i ≡ suc (length b - (i + 1)) = omega arith in
       rw (z, ne-eqb (getD b i 0) 1 e, add-one)
 
   -- at the end there is none
   pub marked-none : length b ≤ i → markedFrom b i ≡ []
-  unfolding upFrom filter
+  unfolding upFrom select
   marked-none l = let z : length b - i ≡ 0 = omega arith in rw z
 
 -- the points of a mask are those that it marks
 pub member-points : (b : List ℕ) (a : ℕ) → List·Memᴰ a (points b) ↔ (member b a ≡ true)
-member-points b a = (λ m. member-filter (member b) (below (length b)) a .0 m .0, λ e. member-filter (member b) (below (length b)) a .1 (e, place e))
+member-points b a = (λ m. member-select (member b) (below (length b)) a .0 m .0, λ e. member-select (member b) (below (length b)) a .1 (e, place e))
   where
     place : member b a ≡ true → List·Memᴰ a (below (length b))
     place e = elim (decLt a (length b)) [
@@ -187,3 +188,9 @@ points-inside n b w a m = elim (decLt a (size n)) [
 -- a mask marks what passes its test
 pub mask-member : (t : ℕ → Bool) (u : ℕ) → u < 512 → member (mask t) u ≡ t u
 mask-member t u l = rw (value-at (λ v. byte (t v)) 512 u 0 l) (member-byte (t u))
+
+-- a mask that does not mark a number below 512 marks fewer than 512
+pub points-fewer : (b : List ℕ) (a : ℕ) → length b ≡ 512 → a < 512 → member b a ≡ false → length (points b) < 512
+points-fewer b a l h e =
+    let there : List·Memᴰ a (below (length b)) = member-from 0 (length b) a .1 (omega arith, omega arith) in
+    omega (arith, select-fewer (member b) (below (length b)) there e, length-from 0 (length b))

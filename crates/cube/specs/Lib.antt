@@ -1,6 +1,4 @@
--- Points, exponents, masks of points and orders of the exponents.
-pub mod Numbers
+-- Points, exponents and masks of points.
 pub mod Cube
 pub mod Mask
-pub mod Order
-pub mod BuiltIn
+pub mod NumberLists

@@ -14,7 +14,7 @@ use mathlib.Core.List.{List, [], _∷_, map}
 use Prim.Native.Nat.{ℕ, zero, suc}
 use lib.Dec.{eqb, leb, ltb}
 use lib.ListN.{length, getD, set}
-use Rattle.cube.specs.Numbers.{below, filter}
+use Rattle.cube.specs.NumberLists.{below, select}
 use Rattle.cube.specs.Cube.{size}
 
 -- a byte for a point is 0 or 1, another is 0
@@ -42,7 +42,7 @@ member b a = eqb (getD b a 0) 1
 
 -- the marked numbers, rising
 abbrev pub marked : List ℕ → List ℕ
-marked b = filter (member b) (below (length b))
+marked b = select (member b) (below (length b))
 
 -- the points of a set
 abbrev pub points : List ℕ → List ℕ
@@ -54,9 +54,9 @@ byte true = 1
 byte false = 0
 
 -- 1 at each of the numbers
-unfoldable pub mark : List ℕ → List ℕ → List ℕ
-mark [] b = b
-mark (u ∷ us) b = mark us (set b u 1)
+unfoldable pub withOnes : List ℕ → List ℕ → List ℕ
+withOnes [] b = b
+withOnes (u ∷ us) b = withOnes us (set b u 1)
 
 -- the 512 bytes that mark what passes a test
 abbrev pub mask : (ℕ → Bool) → List ℕ

@@ -3,7 +3,6 @@ ghost use mathlib.Core.Path.{_≡_};
 ghost use Prim.Native.Nat.{_≤_};
 ghost use Rattle.cube.specs.Cube.{taps, size as sizeOf, within as withinOf, weight as weightOf};
 
-pub mod order; // order.rt: the graded order of the exponents
 pub mod mask; // mask.rt: sets, tables and coefficients as 512 bytes
 
 // The most taps of a filter.

@@ -2,7 +2,7 @@
 ghost use mathlib.Core.Path.{_≡_};
 ghost use Prim.Native.Nat.{_≤_};
 ghost use lib.ListN.{length};
-ghost use Rattle.cube.specs.Numbers.{isEmpty};
+ghost use Rattle.cube.specs.NumberLists.{isEmpty};
 ghost use Rattle.cube.specs.Mask.{allowed as allowedOf, wellFormed, marked};
 use crate::size;
 

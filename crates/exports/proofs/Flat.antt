@@ -8,7 +8,7 @@ use native.Mathlib.Numerals.{add-one}
 use native.Mathlib.Omega.{arith}
 use lib.ListN.{length, getD, set, take, length-set}
 use lib.Seq.{take-suc, take-suc-set}
-use Rattle.immunity.specs.declared.judge.Ranks.{Ranks}
+use Rattle.immunity.specs.declared.Ranks.{Ranks}
 use Rattle.immunity.specs.Ranks.{noRanks}
 use Rattle.exports.specs.Exported.{flat}
 

@@ -11,15 +11,15 @@ use mathlib.Core.List.{List, [], _∷_, _++_}
 use mathlib.Core.Option.{some}
 use Prim.Native.Nat.{ℕ, min}
 use lib.ListN.{length, take, drop}
-use Rattle.cube.specs.Numbers.{lists}
+use Rattle.cube.specs.NumberLists.{lists}
 use Rattle.cube.specs.Mask.{mask}
 use Rattle.refusal.specs.Outcome.{left, leftBy}
 use Rattle.filter_file.specs.Read.{readOutcome}
 use Rattle.matrix.specs.Rank.{rankOutcome, workspaceAfter}
 use Rattle.gf2.specs.Packed.{zeros}
-use Rattle.immunity.specs.declared.judge.Ranks.{Ranks}
-use Rattle.immunity.specs.Judge.{judgeOutcome}
-use Rattle.immunity.specs.Certify.{certifyOutcome, clearedUnless}
+use Rattle.immunity.specs.declared.Ranks.{Ranks}
+use Rattle.judge.specs.Judge.{judgeOutcome}
+use Rattle.certify.specs.Certify.{certifyOutcome, clearedUnless}
 use Rattle.hand_over.specs.HandOver.{handed}
 use Rattle.exports.specs.Status.{statusOf}
 

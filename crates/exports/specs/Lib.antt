@@ -1,3 +1,3 @@
 -- What the exported functions answer.
-pub mod Status
 pub mod Exported
+pub mod Status

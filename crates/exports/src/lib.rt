@@ -6,10 +6,10 @@ ghost use Rattle.exports.specs.Status.{statusOf};
 ghost use Rattle.exports.specs.Exported.{ReadStatus, RankStatus, flat, JudgeStatus, CertifyStatus, inFront, HandOverStatus};
 ghost use Rattle.polynomial.specs.Convert.{convertOutcome, convertLeaves};
 ghost use Rattle.polynomial.specs.Degree.{degreeOutcome};
+use certify::Certification;
 use filter_file::read::Reading;
-use immunity::certify::Certification;
-use immunity::judge::Finding;
-use immunity::judge::Ranks;
+use immunity::Ranks;
+use judge::Finding;
 use matrix::rank::Ranking;
 use polynomial::convert::Conversion;
 use polynomial::degree::DegreeAnswer;
@@ -110,7 +110,7 @@ pub extern "C" fn ekthavrul_judge(
         (now (zero .entry)) (now (zero .exit)) (now (ranks .entry)) (now (ranks .exit)) (now (degree .entry)) (now (degree .exit)) (now (side .entry)) (now (side .exit))
         (now (additions .entry)) (now (additions .exit)) r ⌝ }
 {
-    let answer = immunity::judge::judge(set, table, n, workspace, one, zero);
+    let answer = judge::judge(set, table, n, workspace, one, zero);
     let finding = answer.finding;
     match finding {
         Finding::Refused(x) => refusal::number(x),
@@ -142,7 +142,7 @@ pub extern "C" fn ekthavrul_certify(
 ) -> u8
     ensures { λ r. ⌜ CertifyStatus (now (set .entry)) (now (table .entry)) n side d (now (workspace .entry)) (now (workspace .exit)) (now (certificate .entry)) (now (certificate .exit)) r ⌝ }
 {
-    match immunity::certify::certify(set, table, n, side, d, workspace, certificate) {
+    match certify::certify(set, table, n, side, d, workspace, certificate) {
         Certification::Refused(x) => refusal::number(x),
         Certification::Certified => 0,
     }

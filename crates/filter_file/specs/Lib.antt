@@ -1,8 +1,6 @@
 -- What the bytes of a filter file say, and the bytes that say it.
-pub mod Drawn
-pub mod Varint
-pub mod PointList
-pub mod File
-pub mod Read
-pub mod Progress
 pub mod Fault
+pub mod File
+pub mod PointList
+pub mod Progress
+pub mod Read

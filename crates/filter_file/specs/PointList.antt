@@ -15,11 +15,11 @@ use lib.ListN.{length, drop}
 use Rattle.refusal.specs.declared.Refusal.the-variants.{Range, EmptySet}
 use Rattle.refusal.specs.Refusal.{numberOf}
 use Rattle.refusal.specs.Outcome.{Outcome, refused, accepted, _otherwise_, checked}
-use Rattle.cube.specs.Mask.{mark}
+use Rattle.cube.specs.Mask.{withOnes}
 use Rattle.filter_file.specs.declared.list.Listed.{Listed}
 use Rattle.filter_file.specs.declared.list.Listed.the-variants.{Next, Refused}
-use Rattle.filter_file.specs.Drawn.{Drawn, _leaving_, draw}
-use Rattle.filter_file.specs.Varint.{varint, encodeVarint}
+use Rattle.varint.specs.Drawn.{Drawn, _leaving_, draw}
+use Rattle.varint.specs.Varint.{varint, encodeVarint}
 
 -- a point before those that an outcome draws
 abbrev pub before : ℕ → Outcome (Drawn (List ℕ)) → Outcome (Drawn (List ℕ))
@@ -56,7 +56,7 @@ encodeList ps = encodeVarint (length ps) ++ differences 0 ps
 -- bytes that are marked at the points that an outcome draws
 abbrev pub markDrawn : List ℕ → Outcome (Drawn (List ℕ)) → Outcome (Drawn (List ℕ))
 markDrawn b (refused k) = refused k
-markDrawn b (accepted (ps leaving rest)) = accepted (mark ps b leaving rest)
+markDrawn b (accepted (ps leaving rest)) = accepted (withOnes ps b leaving rest)
 
 -- what the code's answer says: the place after the list stands for the bytes from there on
 abbrev pub outcomeOf : List ℕ → List ℕ → Listed → Outcome (Drawn (List ℕ))

@@ -17,8 +17,8 @@ use Rattle.refusal.specs.Outcome.{Outcome, refused, accepted, _otherwise_, afte
 use Rattle.filter_file.specs.declared.progress.Progress.{Progress}
 use Rattle.filter_file.specs.declared.read.Reading.{Reading}
 use Rattle.filter_file.specs.declared.read.Reading.the-variants.{Read, Refused}
-use Rattle.filter_file.specs.Drawn.{Drawn, _leaving_, draw}
-use Rattle.filter_file.specs.Varint.{varint}
+use Rattle.varint.specs.Drawn.{Drawn, _leaving_, draw}
+use Rattle.varint.specs.Varint.{varint}
 use Rattle.filter_file.specs.PointList.{pointList, markDrawn}
 use Rattle.filter_file.specs.Read.{outcomeOf as readingOf}
 

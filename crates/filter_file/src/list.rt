@@ -4,9 +4,9 @@ ghost use mathlib.Core.Path.{_≡_};
 ghost use Prim.Native.Nat.{_≤_};
 ghost use lib.ListN.{length, drop};
 ghost use Rattle.filter_file.specs.PointList.{pointsFrom, pointList, markDrawn, outcomeOf};
-use crate::varint::Varint;
-use crate::varint::varint_at;
 use refusal::Refusal;
+use varint::Varint;
+use varint::varint_at;
 
 // How a list ends: the place after it, or why it is refused.
 pub enum Listed {

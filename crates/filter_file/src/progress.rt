@@ -6,10 +6,10 @@ ghost use Rattle.filter_file.specs.Read.{outcomeOf as readingOf};
 use crate::list::Listed;
 use crate::list::list_at;
 use crate::read::Reading;
-use crate::varint::Varint;
-use crate::varint::varint_at;
 use cube::valid_taps;
 use refusal::Refusal;
+use varint::Varint;
+use varint::varint_at;
 
 // What a file says so far, and the place of its next number.
 pub struct Progress {

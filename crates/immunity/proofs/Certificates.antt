@@ -8,11 +8,11 @@ use mathlib.Core.List.{List, [], List·Memᴰ}
 use Prim.Native.Nat.{ℕ, _≤_, _<_}
 use native.Mathlib.Omega.{arith}
 use lib.ListN.{length-map}
-use Rattle.cube.specs.Numbers.{below, lists, Inside}
+use Rattle.cube.specs.NumberLists.{below, lists, Inside}
 use Rattle.cube.specs.Mask.{points}
 use Rattle.cube.proofs.Listed.{lists-member, not-listed}
 use Rattle.cube.proofs.Masks.{length-from}
-use Rattle.gf2.specs.Vector.{entry, Same, Each, SumOf}
+use Rattle.gf2.specs.Vector.{entry, Same, SumOf}
 use Rattle.gf2.specs.Points.{Rising, Expresses}
 use Rattle.gf2.proofs.Bits.{not-one}
 use Rattle.gf2.proofs.Each.{each-member}
@@ -22,13 +22,12 @@ use Rattle.gf2.proofs.Points.{expresses-unique}
 use Rattle.gf2.proofs.Combinations.{expressed}
 use Rattle.gf2.proofs.Among.{expresses-alike, expresses-kept}
 use Rattle.matrix.specs.Matrix.{row, rows, eliminated}
-use Rattle.immunity.specs.Part.{part}
+use Rattle.filter.specs.Part.{part}
 use Rattle.immunity.specs.Certificate.{named, Certifies, IsCertificate, sumOf, rowIf, sumIf, certificate}
 use Rattle.immunity.specs.Judgement.{EqualRanks}
-use Rattle.immunity.proofs.Parts.{part-rising}
+use Rattle.immunity.proofs.PartPoints.{part-rising, part-among}
 use Rattle.immunity.proofs.Equal.{equal-sums}
-use Rattle.immunity.proofs.Reported.{part-among}
-use Rattle.immunity.proofs.Numbers.{named-row}
+use Rattle.immunity.proofs.CertificateBits.{named-row}
 
 -- the points that sumOf gives are kept, and their rows sum to the row of a
 sum-expressed : (o : List ℕ) (n d : ℕ) (ps : List ℕ) → Rising ps → (a : ℕ) → SumOf (rows o n d ps) (row o n d a)

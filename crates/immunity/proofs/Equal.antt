@@ -8,7 +8,7 @@ use mathlib.Core.Bool.{false, false≢true}
 use mathlib.Core.List.{List, map, List·Memᴰ}
 use mathlib.Core.Logic.{_↔_, _⊎_, inl, inr}
 use Prim.Native.Nat.{ℕ, _≤_}
-use Rattle.cube.specs.Order.{Graded, columns}
+use Rattle.order.specs.Order.{Graded, columns}
 use Rattle.gf2.specs.Vector.{Row, dot, Each, SumOf, Orthogonal, Separates}
 use Rattle.gf2.proofs.Each.{each-map, each-member, member-each, each-of-map}
 use Rattle.gf2.proofs.Duality.{orthogonal-sum, separate}

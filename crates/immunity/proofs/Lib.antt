@@ -1,26 +1,10 @@
--- Laws of judgements, witnesses and certificates; the demands hold, and so do the starred cases.
-pub mod First
-pub mod Parts
-pub mod NewPoint
-pub mod NewRow
-pub mod Written
+-- Laws of judgements, witnesses and certificates.
+pub mod CertificateBits
+pub mod Certificates
 pub mod Equal
+pub mod First
+pub mod Given
+pub mod NewPoint
+pub mod PartPoints
 pub mod Reported
 pub mod Witnesses
-pub mod Numbers
-pub mod Certificates
-pub mod Given
-pub mod Passed
-pub mod Ready
-pub mod Degrees
-pub mod Judging
-pub mod Demand1
-pub mod Demand2
-pub mod Demand3
-pub mod Following
-pub mod Combining
-pub mod Outside
-pub mod OutsideWords
-pub mod Certified
-pub mod Certifying
-pub mod Cases

@@ -1,5 +1,4 @@
 -- The degree that is reported.
---   part-among        the points of a part are points of the set
 --   unequal-differs   a side differs where the ranks are unequal, and nowhere else
 --   equal-just        equal ranks mean that there is no annihilator up to the degree
 --   FirstDiffers ..   k is the first degree at which a side differs, and no annihilator has a smaller degree
@@ -15,22 +14,22 @@ use native.Mathlib.Decide.{decLt}
 use lib.Dec.{eqb}
 use lib.ListN.{getD}
 use borrow.Author.Tests.{eqb-true, eq-eqb, ne-eqb, not-false}
-use Rattle.cube.specs.Numbers.{below, Inside}
+use Rattle.cube.specs.NumberLists.{below, Inside}
 use Rattle.cube.specs.Cube.{size}
 use Rattle.cube.specs.Mask.{points}
-use Rattle.cube.specs.Order.{Graded}
-use Rattle.cube.proofs.Listed.{member-filter}
+use Rattle.order.specs.Order.{Graded}
+use Rattle.cube.proofs.Listed.{member-select}
 use Rattle.cube.proofs.Masks.{member-from}
-use Rattle.gf2.specs.Vector.{Each}
 use Rattle.gf2.proofs.Each.{member-each}
 use Rattle.polynomial.specs.Polynomial.{Polynomial, value, UpTo}
 use Rattle.polynomial.proofs.Value.{only, only-value, up-to-all}
 use Rattle.matrix.proofs.Rising.{below-rising}
-use Rattle.immunity.specs.Part.{part}
+use Rattle.filter.specs.Part.{part}
 use Rattle.immunity.specs.Judgement.{EqualRanks, differs, eitherDiffers, reported}
 use Rattle.immunity.specs.Annihilator.{Annihilator}
 use Rattle.immunity.proofs.First.{First, first-found}
 use Rattle.immunity.proofs.Equal.{equal-none}
+use Rattle.immunity.proofs.PartPoints.{part-among}
 
 -- k is the first degree at which a side differs, and no annihilator has a smaller degree
 pub record FirstDiffers (o : List ℕ) (n : ℕ) (s f : List ℕ) (k : ℕ) : Type 0 where
@@ -38,10 +37,6 @@ pub record FirstDiffers (o : List ℕ) (n : ℕ) (s f : List ℕ) (k : ℕ) : Ty
   pub before : (side d : ℕ) → side ≤ 1 → d < k → EqualRanks o n s f side d
   pub at : (¬ EqualRanks o n s f 1 k) ⊎ (¬ EqualRanks o n s f 0 k)
   pub least : (side d : ℕ) (p : Polynomial) → side ≤ 1 → Annihilator n p (part side s f) (points s) → UpTo n d p → k ≤ d
-
--- the points of a part are points of the set
-pub part-among : (side : ℕ) (s f : List ℕ) → Each (λ a. List·Memᴰ a (points s)) (part side s f)
-part-among side s f = member-each (λ a. List·Memᴰ a (points s)) (part side s f) (λ a m. member-filter _ (points s) a .0 m .1)
 
 module _ (o : List ℕ) (n : ℕ) (s f : List ℕ) (d side : ℕ) where
   -- a side differs where the ranks are unequal
@@ -92,7 +87,7 @@ module _ {o : List ℕ} (g : Graded o) {n : ℕ} (small : n ≤ 9) (s f : List �
     -- at degree n a side whose part misses a point differs: a polynomial is one just there
     misses : (side : ℕ) → eqb (getD f a 0) side ≡ false → ¬ EqualRanks o n s f side n
     misses side h e = equal-just side n .0 e (only n a) (up-to-all n (only n a)) (record {
-      zero = member-each (λ b. value n (only n a) b ≡ false) (part side s f) (λ b m. let k = member-filter _ (points s) b .0 m in
+      zero = member-each (λ b. value n (only n a) b ≡ false) (part side s f) (λ b m. let k = member-select _ (points s) b .0 m in
           only-value n a b (inside b (k .1)) ∙ ne-eqb a b (λ q. false≢true (sym h ∙ rw (← q) at (k .0))));
       place = a;
       inside = point;

@@ -12,11 +12,11 @@ use Prim.Native.Nat.{ℕ, zero, suc, _≤_, _<_}
 use native.Mathlib.Decide.{decLt}
 use native.Mathlib.Omega.{arith}
 use lib.ListN.{length, getD, length-map, List·getD-eq-default}
-use Rattle.cube.specs.Numbers.{lists}
+use Rattle.cube.specs.NumberLists.{lists}
 use Rattle.cube.specs.Cube.{size, within, weight}
-use Rattle.cube.specs.Order.{Graded, columns}
+use Rattle.order.specs.Order.{Graded, columns}
 use Rattle.cube.proofs.Listed.{member-place}
-use Rattle.cube.proofs.Columns.{member-columns}
+use Rattle.order.proofs.DegreeColumns.{member-columns}
 use Rattle.gf2.specs.Vector.{Row, entry, Zero, Same, Each, chosen}
 use Rattle.gf2.specs.Points.{Rising}
 use Rattle.gf2.specs.Solve.{witness}

@@ -15,14 +15,14 @@ use mathlib.Core.List.{List, [], map, List·Memᴰ}
 use Prim.Native.Nat.{ℕ, _+_, _*_, _/_, _%_, _^_, _<_}
 use lib.Dec.{eqb}
 use lib.ListN.{length, getD, take, drop}
-use Rattle.cube.specs.Numbers.{below, lists}
+use Rattle.cube.specs.NumberLists.{below, lists}
 use Rattle.cube.specs.Mask.{points}
 use Rattle.gf2.specs.Vector.{Row, Zero, chosen, total}
 use Rattle.gf2.specs.Elimination.{reduce}
 use Rattle.gf2.specs.Points.{Expresses}
 use Rattle.gf2.specs.Packed.{number}
 use Rattle.matrix.specs.Matrix.{row, eliminated}
-use Rattle.immunity.specs.Part.{part}
+use Rattle.filter.specs.Part.{part}
 
 -- bit q mod 64, from the lowest, of number q / 64 of the eight from 8 a
 unfoldable pub bitOf : List ℕ → ℕ → ℕ → Bool

@@ -12,18 +12,19 @@
 --   setRank j d                 the rank of the set at degree d that a judgement gives
 --   partRank j side d           the rank of a side's part
 --   buffer j side               the witness buffer of a side
+--   GivenEqual j side d         the two ranks that the judgement j gives for a side at degree d are equal
 use mathlib.Core.Path.{_≡_}
+use Prim.Native.Nat.{ℕ, zero, suc, _+_}
+use Rattle.filter.specs.Part.{part}
 use mathlib.Core.Bool.{Bool, false, not, _||_}
 use mathlib.Core.List.{List, [], _∷_, map}
 use mathlib.Core.Option.{Option, none, some}
-use Prim.Native.Nat.{ℕ, zero, suc, _+_}
 use lib.Dec.{eqb}
 use lib.ListN.{getD}
-use Rattle.cube.specs.Numbers.{below}
+use Rattle.cube.specs.NumberLists.{below}
 use Rattle.cube.specs.Mask.{points, byte, mask}
 use Rattle.matrix.specs.Matrix.{rankOf}
-use Rattle.immunity.specs.Part.{part}
-use Rattle.immunity.specs.declared.judge.Ranks.{Ranks}
+use Rattle.immunity.specs.declared.Ranks.{Ranks}
 use Rattle.immunity.specs.Ranks.{noRanks, ranksIf, ranksUpTo, additionsOf}
 use Rattle.immunity.specs.First.{first}
 use Rattle.immunity.specs.Witness.{witnessAt}
@@ -107,3 +108,7 @@ partRank j (suc side) d = getD (j .ranks) d noRanks .one
 unfoldable pub buffer : Judgement → ℕ → List ℕ
 buffer j zero = j .zero
 buffer j (suc side) = j .one
+
+-- the two ranks that the judgement gives, of the set and of the side's part, are equal
+abbrev pub GivenEqual : Judgement → ℕ → ℕ → Type 0
+GivenEqual j side d = setRank j d ≡ partRank j side d

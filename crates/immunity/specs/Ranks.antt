@@ -12,7 +12,7 @@ use Prim.Native.Nat.{ℕ, _+_}
 use lib.Dec.{eqb, leb}
 use lib.ListN.{getD}
 use Rattle.matrix.specs.Matrix.{eliminated, rankOf}
-use Rattle.immunity.specs.declared.judge.Ranks.{Ranks}
+use Rattle.immunity.specs.declared.Ranks.{Ranks}
 
 -- all 0
 abbrev pub noRanks : Ranks

@@ -1,6 +1,8 @@
-// Restricted algebraic immunity: document 01, 'Judgement', and the demands on the whole.
-mod part; // part.rt: the parts of a set
-mod witness; // witness.rt: the witness of a side
-pub mod judge; // judge.rt: Judge
-mod combination; // combination.rt: the points whose rows sum to a row, in the workspace
-pub mod certify; // certify.rt: Certify
+// Restricted algebraic immunity: definitions and laws, and the one type that they share with the code.
+
+// The ranks of the set, of part 1 and of part 0 at one degree.
+pub struct Ranks {
+    pub set: u16,
+    pub one: u16,
+    pub zero: u16,
+}

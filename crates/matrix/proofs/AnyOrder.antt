@@ -11,9 +11,9 @@ use native.Mathlib.Decide.{decLt}
 use native.Mathlib.Omega.{arith}
 use lib.ListN.{length, getD, length-map, List·getD-eq-default}
 use Rattle.cube.specs.Cube.{size, within, weight}
-use Rattle.cube.specs.Order.{Graded, columns}
+use Rattle.order.specs.Order.{Graded, columns}
 use Rattle.cube.proofs.Listed.{member-place, place-member}
-use Rattle.cube.proofs.Columns.{member-columns}
+use Rattle.order.proofs.DegreeColumns.{member-columns}
 use Rattle.gf2.specs.Vector.{entry, total, Zero}
 use Rattle.gf2.specs.Rank.{Rank}
 use Rattle.gf2.proofs.Bits.{xor-self}

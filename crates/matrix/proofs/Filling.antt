@@ -13,7 +13,7 @@ use native.Mathlib.Omega.{arith}
 use lib.ListN.{length, set, take, drop, length-drop, length-map, take-append-drop, List·getD-append}
 use lib.Pow.{pow-mono}
 use lib.Seq.{take-suc, drop-cons, drop-length, set-at, append-snoc, length-take-le, getD-append-add, getD-drop}
-use Rattle.cube.specs.Numbers.{below}
+use Rattle.cube.specs.NumberLists.{below}
 use Rattle.cube.specs.Cube.{size}
 use Rattle.cube.proofs.Masks.{length-from, value-at}
 use Rattle.gf2.specs.Vector.{Row}

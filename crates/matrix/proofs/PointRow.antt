@@ -12,12 +12,12 @@ use lib.Bits.{bitAnd, and-le-r}
 use lib.Dec.{ltb}
 use lib.ListN.{length, replicate, length-map}
 use borrow.Author.Tests.{ne-eqb}
-use Rattle.cube.specs.Numbers.{filter}
+use Rattle.cube.specs.NumberLists.{select}
 use Rattle.cube.specs.Cube.{size, within}
-use Rattle.cube.specs.Order.{Graded, columns}
+use Rattle.order.specs.Order.{Graded, columns}
 use Rattle.cube.proofs.Bits.{within-and}
-use Rattle.cube.proofs.Listed.{length-filter}
-use Rattle.cube.proofs.Columns.{columns-all}
+use Rattle.cube.proofs.Listed.{length-select}
+use Rattle.order.proofs.DegreeColumns.{columns-all}
 use Rattle.gf2.specs.Vector.{Row}
 use Rattle.gf2.specs.Packed.{cut, common, padded}
 use Rattle.gf2.proofs.Each.{member-each, map-each}
@@ -41,10 +41,10 @@ module _ {o : List ℕ} (g : Graded o) (n : ℕ) where
   pub exponents-row : (a : ℕ) → a < 512 → monomials (exponents o n) a ≡ wideRow o n n a
   unfolding exponents
   exponents-row a h =
-      let us : List ℕ = filter (λ u. ltb u (size n)) o in
+      let us : List ℕ = select (λ u. ltb u (size n)) o in
       let f : ℕ → Bool = λ u. within u a in
       let l : length (map f us) ≡ length us = length-map us f in
-      let few : length (map f us) ≤ 512 = omega (arith, l, length-filter (λ u. ltb u (size n)) o, g .long) in
+      let few : length (map f us) ≤ 512 = omega (arith, l, length-select (λ u. ltb u (size n)) o, g .long) in
       map-append f us (replicate (512 - length us) 65535)
       ∙ ap (λ v. map f us ++ v) (map-replicate f (512 - length us) 65535 ∙ ap (λ b. replicate (512 - length us) b) (within-none a h))
       ∙ ap (λ m. map f us ++ replicate (512 - m) false) (sym l)

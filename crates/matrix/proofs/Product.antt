@@ -11,11 +11,11 @@ use Prim.Native.Nat.{ℕ, zero, suc, _≤_, _<_}
 use native.Mathlib.Omega.{arith}
 use lib.ListN.{length, getD, take}
 use borrow.Author.Tests.{eq-eqb, ne-eqb}
-use Rattle.cube.specs.Numbers.{lists}
+use Rattle.cube.specs.NumberLists.{lists}
 use Rattle.cube.specs.Cube.{size, within}
-use Rattle.cube.specs.Order.{Graded, columns}
+use Rattle.order.specs.Order.{Graded, columns}
 use Rattle.cube.proofs.Listed.{Distinct, lists-member, not-listed, place-member}
-use Rattle.cube.proofs.Columns.{member-columns, columns-distinct, columns-prefix}
+use Rattle.order.proofs.DegreeColumns.{member-columns, columns-distinct, columns-prefix}
 use Rattle.gf2.specs.Vector.{Row, Choice, entry, dot, chosen}
 use Rattle.gf2.proofs.Bits.{false-xor}
 use Rattle.gf2.proofs.Each.{each-member, chosen-among}

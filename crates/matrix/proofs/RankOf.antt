@@ -10,10 +10,10 @@ use lib.ListN.{length}
 use Rattle.refusal.specs.Outcome.{accepted}
 use Rattle.refusal.proofs.Checks.{PassTo, checked-accepts}
 use Rattle.cube.specs.Mask.{points}
-use Rattle.cube.specs.Order.{Graded}
-use Rattle.cube.specs.BuiltIn.{graded}
+use Rattle.order.specs.Order.{Graded}
+use Rattle.order.specs.BuiltIn.{graded}
 use Rattle.cube.proofs.Taps.{taps-range}
-use Rattle.cube.proofs.BuiltIn.{graded-is-graded}
+use Rattle.order.proofs.BuiltIn.{graded-is-graded}
 use Rattle.gf2.specs.Rank.{Rank}
 use Rattle.gf2.proofs.Kept.{keeps-rank, additions-bound, additions-most}
 use Rattle.matrix.specs.Matrix.{row, rows, eliminated, rankOf}

@@ -10,11 +10,11 @@ use lib.ListN.{length}
 use Rattle.refusal.specs.Refusal.{numberOf}
 use Rattle.refusal.specs.Outcome.{refused, accepted, Check, left}
 use Rattle.refusal.proofs.Checks.{testAt, refusalAt, PassTo, broken-refuses, checked-accepts}
-use Rattle.cube.specs.Numbers.{Inside}
+use Rattle.cube.specs.NumberLists.{Inside}
 use Rattle.cube.specs.Cube.{size}
 use Rattle.cube.specs.Mask.{wellFormed, points}
-use Rattle.cube.specs.Order.{Graded, columns}
-use Rattle.cube.specs.BuiltIn.{graded}
+use Rattle.order.specs.Order.{Graded, columns}
+use Rattle.order.specs.BuiltIn.{graded}
 use Rattle.cube.proofs.Masks.{points-inside}
 use Rattle.gf2.specs.Vector.{Row}
 use Rattle.gf2.specs.Packed.{zeros}

@@ -14,10 +14,10 @@ use native.Mathlib.Omega.{arith}
 use lib.ListN.{length, getD, take, drop, length-map}
 use lib.Pow.{pow-mono}
 use lib.Seq.{length-take-le, getD-drop}
-use Rattle.cube.specs.Numbers.{Inside}
+use Rattle.cube.specs.NumberLists.{Inside}
 use Rattle.cube.specs.Cube.{size, within}
-use Rattle.cube.specs.Order.{Graded, columns}
-use Rattle.cube.proofs.Columns.{length-columns}
+use Rattle.order.specs.Order.{Graded, columns}
+use Rattle.order.proofs.DegreeColumns.{length-columns}
 use Rattle.gf2.specs.Vector.{Row, Each}
 use Rattle.gf2.specs.Elimination.{Elimination, nothing, eliminate}
 use Rattle.gf2.specs.Packed.{cut, padded}

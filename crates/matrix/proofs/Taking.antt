@@ -11,9 +11,9 @@ use Prim.Native.Nat.{ℕ, _+_, _≤_, _<_}
 use native.Mathlib.Nat.{le-refl}
 use lib.ListN.{length, getD, set, take, drop}
 use lib.Seq.{set-set, getD-set-same, take-set-le, drop-set-lt, getD-drop}
-use Rattle.cube.specs.Numbers.{upFrom, below, filter}
+use Rattle.cube.specs.NumberLists.{upFrom, below, select}
 use Rattle.cube.specs.Mask.{member}
-use Rattle.cube.proofs.Masks.{filter-yes, filter-no}
+use Rattle.cube.proofs.Masks.{select-yes, select-no}
 use Rattle.gf2.specs.Vector.{Row}
 use Rattle.gf2.specs.Elimination.{isZero, count, Reduced, reduce, keepUnless, Elimination, takePoint, takePoints, eliminate}
 use Rattle.gf2.specs.Packed.{rowOf, cut, Reduces, oneMoreUnless}
@@ -41,12 +41,12 @@ takes t₀ t₁ t₂ k k′ n v l s e r f g h =
 
 -- the points of the mask below a
 abbrev pub pointsTo : List ℕ → ℕ → List ℕ
-pointsTo b a = filter (member b) (below a)
+pointsTo b a = select (member b) (below a)
 
 module _ (t : List Row) (c : ℕ) (b : List ℕ) where
   -- no point is taken yet
   pub eliminates-none : Eliminates t t c (pointsTo b 0) 0 0
-  unfolding upFrom filter takePoints
+  unfolding upFrom select takePoints
   eliminates-none = record { kept = refl; additions = refl; stays = refl }
 
   -- the next number is a point of the mask
@@ -57,7 +57,7 @@ module _ (t : List Row) (c : ℕ) (b : List ℕ) where
       let ps : List ℕ = pointsTo b a in
       let old : Elimination = eliminate (stored t c) ps in
       let next : eliminate (stored t c) (pointsTo b (a + 1)) ≡ takePoint (stored t c) old a =
-      ap (eliminate (stored t c)) (filter-yes (member b) a e) ∙ eliminate-snoc (stored t c) ps a in
+      ap (eliminate (stored t c)) (select-yes (member b) a e) ∙ eliminate-snoc (stored t c) ps a in
       let row : stored t c a ≡ cut c (rowOf t′ (512 + a)) =
       ap (cut c) (sym (getD-drop 512 t a []) ∙ ap (λ x. getD x a []) (sym (h .stays)) ∙ getD-drop 512 t′ a []) in
       let same : reduce (old .kept) (stored t c a) ≡ reduce (take k t′) (cut c (rowOf t′ (512 + a))) = ap₂ reduce (h .kept) row in
@@ -69,4 +69,4 @@ module _ (t : List Row) (c : ℕ) (b : List ℕ) where
 
   -- it is not
   pub eliminates-no : (t′ : List Row) (a k n : ℕ) → Eliminates t t′ c (pointsTo b a) k n → member b a ≡ false → Eliminates t t′ c (pointsTo b (a + 1)) k n
-  eliminates-no t′ a k n h e = rw (filter-no (member b) a e) h
+  eliminates-no t′ a k n h e = rw (select-no (member b) a e) h

@@ -13,11 +13,11 @@ use native.Mathlib.Nat.{le-refl}
 use native.Mathlib.Omega.{arith}
 use lib.ListN.{length, getD, set, take, length-map}
 use lib.Seq.{getD-set-same, take-set-le, length-take-le, getD-drop}
-use Rattle.cube.specs.Numbers.{upFrom, filter, Inside}
+use Rattle.cube.specs.NumberLists.{upFrom, select, Inside}
 use Rattle.cube.specs.Cube.{size}
 use Rattle.cube.specs.Mask.{member}
-use Rattle.cube.specs.Order.{Graded, columns}
-use Rattle.cube.proofs.Masks.{filter-yes, filter-no}
+use Rattle.order.specs.Order.{Graded, columns}
+use Rattle.cube.proofs.Masks.{select-yes, select-no}
 use Rattle.gf2.specs.Vector.{Row, Each}
 use Rattle.gf2.specs.Elimination.{pivot, isZero, count, reduce, keepUnless, Elimination, takePoint, takePoints, eliminate}
 use Rattle.gf2.specs.Packed.{rowOf, zeros, cut, padded, oneMoreUnless, Pivots}
@@ -56,7 +56,7 @@ takes-all t₀ t₁ t₂ k k′ v xs xs′ l s long wide e r f g =
 module _ (t : List Row) (b : List ℕ) where
   -- no point is taken yet
   pub eliminates-all-none : (n : ℕ) → EliminatesAll t t (pointsTo b 0) 0 (zeros n)
-  unfolding upFrom filter takePoints keptTo
+  unfolding upFrom select takePoints keptTo
   eliminates-all-none n = record { kept = λ c. refl; additions = λ c. sym (sum-zeros c n); stays = refl }
 
   -- the next number is a point of the mask
@@ -73,7 +73,7 @@ module _ (t : List Row) (b : List ℕ) where
       ps = pointsTo b a
 
       next : (c : ℕ) → eliminate (stored t c) (pointsTo b (a + 1)) ≡ takePoint (stored t c) (eliminate (stored t c) ps) a
-      next c = ap (eliminate (stored t c)) (filter-yes (member b) a e) ∙ eliminate-snoc (stored t c) ps a
+      next c = ap (eliminate (stored t c)) (select-yes (member b) a e) ∙ eliminate-snoc (stored t c) ps a
 
       row : rowOf t (512 + a) ≡ rowOf t′ (512 + a)
       row = sym (getD-drop 512 t a []) ∙ ap (λ x. getD x a []) (sym (h .stays)) ∙ getD-drop 512 t′ a []
@@ -83,7 +83,7 @@ module _ (t : List Row) (b : List ℕ) where
 
   -- it is not
   pub eliminates-all-no : (t′ : List Row) (a k : ℕ) (xs : List ℕ) → EliminatesAll t t′ (pointsTo b a) k xs → member b a ≡ false → EliminatesAll t t′ (pointsTo b (a + 1)) k xs
-  eliminates-all-no t′ a k xs h e = rw (filter-no (member b) a e) h
+  eliminates-all-no t′ a k xs h e = rw (select-no (member b) a e) h
 
 module _ {o : List ℕ} (g : Graded o) (n d : ℕ) (s : n ≤ 9) (low : d ≤ n) (t : List Row) (there : RowsFrom (exponents o n) n t 0) (ps : List ℕ) (inside : Inside (size n) ps)
     (t′ : List Row) (k : ℕ) (xs : List ℕ) (h : EliminatesAll t t′ ps k xs)

@@ -8,9 +8,9 @@
 use mathlib.Core.List.{List, map}
 use Prim.Native.Nat.{ℕ}
 use lib.ListN.{length}
-use Rattle.cube.specs.Numbers.{lists}
+use Rattle.cube.specs.NumberLists.{lists}
 use Rattle.cube.specs.Cube.{within}
-use Rattle.cube.specs.Order.{columns}
+use Rattle.order.specs.Order.{columns}
 use Rattle.gf2.specs.Vector.{Row, chosen}
 use Rattle.gf2.specs.Elimination.{Elimination, eliminate}
 use Rattle.polynomial.specs.Polynomial.{Polynomial}

@@ -15,7 +15,7 @@ use Rattle.refusal.specs.Outcome.{Outcome, refused, accepted, Check, _otherwise
 use Rattle.refusal.specs.declared.Refusal.the-variants.{Length, Taps, Bytes, Degree}
 use Rattle.cube.specs.Cube.{taps}
 use Rattle.cube.specs.Mask.{wellFormed, points}
-use Rattle.cube.specs.BuiltIn.{graded}
+use Rattle.order.specs.BuiltIn.{graded}
 use Rattle.gf2.specs.Packed.{zeros}
 use Rattle.matrix.specs.Matrix.{eliminated, rankOf}
 use Rattle.matrix.specs.declared.rank.Ranked.{Ranked}

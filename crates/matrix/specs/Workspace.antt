@@ -15,7 +15,7 @@ use Prim.Native.Nat.{ℕ, _+_, _-_, _≤_, _<_}
 use lib.Bits.{bitAnd}
 use lib.Dec.{ltb}
 use lib.ListN.{length, getD, take, drop, replicate}
-use Rattle.cube.specs.Numbers.{below, filter}
+use Rattle.cube.specs.NumberLists.{below, select}
 use Rattle.cube.specs.Cube.{size}
 use Rattle.gf2.specs.Vector.{Row}
 use Rattle.gf2.specs.Elimination.{isZero, count, reduce, keepUnless, eliminate}
@@ -29,7 +29,7 @@ fillTo512 xs = xs ++ replicate (512 - length xs) 65535
 
 -- the exponents of n taps in order, then 65535
 unfoldable pub exponents : List ℕ → ℕ → List ℕ
-exponents o n = fillTo512 (filter (λ u. ltb u (size n)) o)
+exponents o n = fillTo512 (select (λ u. ltb u (size n)) o)
 
 -- row 512 + a is the monomials us at the point a
 unfoldable pub filled : List ℕ → ℕ → List Row → List Row

@@ -4,18 +4,18 @@ ghost use mathlib.Core.Bool.{true};
 ghost use Prim.Native.Nat.{_≤_};
 ghost use lib.ListN.{length};
 ghost use Rattle.cube.specs.Mask.{wellFormed, points};
-ghost use Rattle.cube.specs.BuiltIn.{graded};
+ghost use Rattle.order.specs.BuiltIn.{graded};
 ghost use Rattle.gf2.specs.Packed.{zeros};
 ghost use Rattle.matrix.specs.Rank.{Ranks, ranked};
 use crate::elimination::eliminate;
-use crate::rows::column_count;
 use crate::rows::fill_rows;
 use cube::POINTS;
 use cube::mask::well_formed;
-use cube::order::graded_order;
 use cube::valid_taps;
 use gf2::WORKSPACE;
 use gf2::packed::clear;
+use order::columns::column_count;
+use order::graded_order;
 use refusal::Refusal;
 
 // A rank and the additions of its elimination.

@@ -1,11 +1,9 @@
 // The rows of points in the workspace, their columns in an order of the exponents.
 ghost use mathlib.Core.Path.{_≡_};
-ghost use mathlib.Core.Bool.{_&&_};
 ghost use Prim.Native.Nat.{_+_, _≤_, _<_};
-ghost use lib.Dec.{ltb, leb};
 ghost use lib.ListN.{length, set, take, drop};
-ghost use Rattle.cube.specs.Cube.{size as sizeOf, weight as weightOf};
-ghost use Rattle.cube.specs.Order.{Graded, columns};
+ghost use Rattle.cube.specs.Cube.{size as sizeOf};
+ghost use Rattle.order.specs.Order.{Graded, columns};
 ghost use Rattle.gf2.specs.Packed.{unpacked, digit, number};
 ghost use Rattle.matrix.specs.Matrix.{monomials};
 ghost use Rattle.matrix.specs.Workspace.{exponents as exponentsOf, filled, RowsFrom, Splits};
@@ -14,7 +12,6 @@ use cube::Exponent;
 use cube::POINTS;
 use cube::Point;
 use cube::size;
-use cube::weight;
 use cube::within;
 use gf2::COLUMNS;
 use gf2::ROW_WORDS;
@@ -23,33 +20,6 @@ use gf2::packed::common_row;
 
 // An exponent that lies within no point.
 const NO_EXPONENT: u16 = 65535;
-
-// Whether the exponent `u` is one of `points` points and weighs at most `d`.
-pub fn is_column(u: Exponent, points: usize, d: usize) -> bool
-    ensures { λ r. ⌜ r ≡ (ltb (u .0) points && leb (weightOf (u .0)) d) ⌝ }
-{
-    if (u.0 as usize) < points {
-        return weight(u) as usize <= d;
-    }
-    false
-}
-
-// The number of columns of `n` taps at degree `d`.
-pub fn column_count(order: &[u16; 512], n: usize, d: usize) -> usize
-    requires { ⌜ Graded (now order) × (n ≤ 9) ⌝ }
-    ensures { λ r. ⌜ r ≡ length (columns (now (order .entry)) n d) ⌝ }
-{
-    let points = size(n);
-    let mut count: usize = 0;
-    let mut i: usize = 0;
-    while i < POINTS {
-        if is_column(Exponent(order[i]), points, d) {
-            count += 1;
-        }
-        i += 1;
-    }
-    count
-}
 
 // The exponents of `n` taps in order, then an exponent that lies within no point.
 fn exponents(order: &[u16; 512], n: usize) -> [u16; 512]

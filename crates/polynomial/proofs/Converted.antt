@@ -23,7 +23,7 @@ use Rattle.refusal.proofs.Checks.{testAt, refusalAt, PassTo, broken-refuses, ch
 use Rattle.polynomial.specs.Convert.{Bits, values, converted, convertChecks, convertOutcome, convertLeaves, Converts}
 use Rattle.polynomial.specs.declared.convert.Conversion.the-variants.{Refused, Converted}
 use Rattle.polynomial.proofs.Halves.{values-same}
-use Rattle.polynomial.proofs.Parts.{bits-take}
+use Rattle.polynomial.proofs.HalvesInPlace.{bits-take}
 
 module _ (n : ℕ) (b : List ℕ) where
   -- a broken check

@@ -13,7 +13,7 @@ use lib.Bits.{bitXor}
 use lib.Dec.{eqb}
 use lib.ListN.{length, getD, take, drop, length-append, length-map, List·getD-append}
 use lib.Seq.{ext-getD, length-take-le, getD-take, getD-drop, getD-append-add}
-use Rattle.cube.specs.Numbers.{upFrom, below}
+use Rattle.cube.specs.NumberLists.{upFrom, below}
 use Rattle.cube.specs.Cube.{size, within}
 use Rattle.cube.specs.Mask.{member, byte}
 use Rattle.cube.proofs.Masks.{length-from, value-at, byte-member}

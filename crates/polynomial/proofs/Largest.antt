@@ -8,7 +8,7 @@ use Prim.Native.Nat.{ℕ, _≤_, max}
 use native.Mathlib.Decide.{decLt}
 use native.Mathlib.Omega.{arith}
 use borrow.Author.Tests.{not-true}
-use Rattle.cube.specs.Numbers.{isEmpty}
+use Rattle.cube.specs.NumberLists.{isEmpty}
 use Rattle.cube.specs.Cube.{weight}
 use Rattle.cube.specs.Mask.{member}
 use Rattle.cube.proofs.Masks.{member-points, points-inside}

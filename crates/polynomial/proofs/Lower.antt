@@ -11,7 +11,7 @@ use native.Mathlib.Omega.{arith}
 use lib.Bits.{bitXor}
 use lib.ListN.{length, getD, set, take, drop, length-map, List·getD-append, drop-of-length-le}
 use lib.Seq.{paste, paste-zero, paste-suc, length-paste-head, length-take-le, getD-take, getD-at, drop-cons, take-all}
-use Rattle.cube.specs.Numbers.{below}
+use Rattle.cube.specs.NumberLists.{below}
 use Rattle.cube.proofs.Masks.{length-from, value-at}
 use Rattle.polynomial.specs.Convert.{lowerAdded}
 

@@ -14,7 +14,7 @@ use native.Mathlib.Omega.{arith}
 use native.Mathlib.Nat.{add-zero, add-suc}
 use lib.Dec.{eqb}
 use borrow.Author.Tests.{eqb-true, eqb-false, ne-eqb}
-use Rattle.cube.specs.Numbers.{lists, Inside}
+use Rattle.cube.specs.NumberLists.{lists, Inside}
 use Rattle.cube.proofs.Listed.{Distinct, not-listed}
 use Rattle.gf2.proofs.Bits.{bits, false-xor, xor-false, xor-self, xor-assoc}
 use Rattle.polynomial.specs.Polynomial.{sumBelow}

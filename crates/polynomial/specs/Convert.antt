@@ -14,7 +14,7 @@ use Prim.Native.Nat.{ℕ, _+_, _≤_}
 use lib.Bits.{bitXor}
 use lib.Dec.{eqb}
 use lib.ListN.{length, getD, take, drop}
-use Rattle.cube.specs.Numbers.{below}
+use Rattle.cube.specs.NumberLists.{below}
 use Rattle.cube.specs.Cube.{size, taps}
 use Rattle.cube.specs.Mask.{wellFormed, member, byte}
 use Rattle.refusal.specs.Refusal.{numberOf}

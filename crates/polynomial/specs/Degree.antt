@@ -7,7 +7,7 @@
 use mathlib.Core.Bool.{not}
 use mathlib.Core.List.{List, [], _∷_, _++_}
 use Prim.Native.Nat.{ℕ, max}
-use Rattle.cube.specs.Numbers.{isEmpty}
+use Rattle.cube.specs.NumberLists.{isEmpty}
 use Rattle.cube.specs.Cube.{weight}
 use Rattle.cube.specs.Mask.{marked}
 use Rattle.refusal.specs.Refusal.{numberOf}

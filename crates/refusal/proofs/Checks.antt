@@ -18,7 +18,7 @@ use Rattle.refusal.specs.Outcome.{Outcome, refused, accepted, Check, _ot
 use Rattle.refusal.specs.Refusal.{numberOf}
 use Rattle.refusal.specs.declared.Refusal.{Refusal}
 use Rattle.refusal.specs.declared.Refusal.the-variants.{Length}
-use Rattle.refusal.proofs.Accepted.{not-both}
+use Rattle.refusal.proofs.Outcomes.{not-both}
 
 -- the test at a place
 abbrev pub testAt : List Check → ℕ → Bool

@@ -1,3 +1,3 @@
 -- Laws of outcomes.
-pub mod Accepted
 pub mod Checks
+pub mod Outcomes

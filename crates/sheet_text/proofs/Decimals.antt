@@ -10,8 +10,7 @@ use native.Mathlib.Omega.{arith}
 use lib.Dec.{ltb}
 use lib.ListN.{length, length-append}
 use borrow.Author.Tests.{lt-ltb, le-ltb}
-use Rattle.io.specs.Digits.{glyph, Fewest}
-use Rattle.io.specs.Digits.{digits as digitsOf}
+use Rattle.io.specs.Digits.{glyph, Fewest, digits as digitsOf}
 use Rattle.sheet_text.specs.Text.{either, digits, decimal}
 
 -- the last digit

@@ -1,7 +1,6 @@
 -- Laws of texts in a buffer, of decimal digits, and of the sheet.
 pub mod Appending
 pub mod Decimals
-pub mod Outside
-pub mod Accepted
-pub mod Filters
-pub mod Sample
+pub mod OutsideTo
+pub mod ReadFilter
+pub mod SheetAccepts

@@ -1,3 +1,3 @@
 -- Texts as bytes, and the printed sheet of document 01.
-pub mod Text
 pub mod Sheet
+pub mod Text

@@ -23,12 +23,12 @@ use Prim.Native.Nat.{ℕ, zero, suc, _+_, _/_}
 use lib.Dec.{eqb}
 use lib.ListN.{length, getD}
 use Rattle.refusal.specs.Outcome.{Outcome, refused, accepted}
-use Rattle.cube.specs.Numbers.{below, filter, lists}
+use Rattle.cube.specs.NumberLists.{below, select, lists}
 use Rattle.cube.specs.Mask.{member, points, mask}
-use Rattle.cube.specs.BuiltIn.{graded}
+use Rattle.order.specs.BuiltIn.{graded}
 use Rattle.filter_file.specs.File.{Contents}
 use Rattle.filter_file.specs.Read.{readOutcome}
-use Rattle.immunity.specs.declared.judge.Ranks.{Ranks}
+use Rattle.immunity.specs.declared.Ranks.{Ranks}
 use Rattle.immunity.specs.Ranks.{noRanks}
 use Rattle.immunity.specs.Judgement.{Judgement, judged}
 use Rattle.immunity.specs.Certificate.{bitOf, certificate}
@@ -58,7 +58,7 @@ rankLines n rs = joined (λ d. rankLine d (getD rs d noRanks)) (below (n + 1))
 -- the reported degree, the side, and the exponents of a witness in graded order
 abbrev pub degreeLine : ℕ → ℕ → List ℕ → Bytes
 degreeLine k side w =
-    labelled "degree" k ++ labelled " side" side ++ ascii " witness" ++ fields (filter (member w) graded) ++ newline
+    labelled "degree" k ++ labelled " side" side ++ ascii " witness" ++ fields (select (member w) graded) ++ newline
 
 -- the points whose rows sum to the row of a
 abbrev pub sumLine : ℕ → ℕ → List ℕ → Bytes
@@ -66,11 +66,11 @@ sumLine side a qs = labelled "side" side ++ labelled " point" a ++ ascii " sum" 
 
 -- the points of S outside the part of a side
 abbrev pub outside : ℕ → List ℕ → List ℕ → List ℕ
-outside side s f = filter (λ a. not (eqb (getD f a 0) side)) (points s)
+outside side s f = select (λ a. not (eqb (getD f a 0) side)) (points s)
 
 -- the sums that a certificate states for points
 abbrev pub sumLines : ℕ → List ℕ → List ℕ → Bytes
-sumLines side c ps = joined (λ a. sumLine side a (filter (bitOf c a) (below 512))) ps
+sumLines side c ps = joined (λ a. sumLine side a (select (bitOf c a) (below 512))) ps
 
 -- the sums of a side at degree d
 abbrev pub sideSums : ℕ → List ℕ → List ℕ → ℕ → ℕ → Bytes

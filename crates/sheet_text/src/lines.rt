@@ -2,9 +2,9 @@
 ghost use mathlib.Core.Path.{_≡_};
 ghost use Prim.Native.Nat.{_+_, _*_, _≤_, _<_};
 ghost use lib.ListN.{length};
-ghost use Rattle.cube.specs.Numbers.{below, filter};
+ghost use Rattle.cube.specs.NumberLists.{below, select};
 ghost use Rattle.cube.specs.Mask.{member, points};
-ghost use Rattle.cube.specs.BuiltIn.{graded};
+ghost use Rattle.order.specs.BuiltIn.{graded};
 ghost use Rattle.immunity.specs.Certificate.{bitOf};
 ghost use Rattle.sheet_text.specs.Text.{fields, Appends};
 ghost use Rattle.sheet_text.specs.Sheet.{refusedLine, firstLine, rankLine, rankLines, degreeLine, sumLine, sumLines, outside, additionsLine};
@@ -14,8 +14,8 @@ use crate::text::append_field;
 use crate::text::append_heading;
 use crate::text::append_labelled;
 use cube::POINTS;
-use cube::order::graded_order;
-use immunity::judge::Ranks;
+use immunity::Ranks;
+use order::graded_order;
 
 // The line for a refusal.
 pub fn refused_line(text: &mut [u8], at: usize, number: u8) -> usize
@@ -66,7 +66,7 @@ pub fn rank_lines(text: &mut [u8], at: usize, n: usize, ranks: [Ranks; 10]) -> u
 // The exponents that a witness chooses, in graded order.
 fn witness_fields(text: &mut [u8], at: usize, witness: &[u8]) -> usize
     requires { ⌜ (at + 2069 ≤ length (now text)) × (length (now witness) ≡ 512) ⌝ }
-    ensures { λ r. ⌜ Appends (fields (filter (member (now (witness .entry))) graded)) (now (text .entry)) (now (text .exit)) at r × (r ≤ at + 2048) ⌝ }
+    ensures { λ r. ⌜ Appends (fields (select (member (now (witness .entry))) graded)) (now (text .entry)) (now (text .exit)) at r × (r ≤ at + 2048) ⌝ }
 {
     let order = graded_order();
     let mut place = at;
@@ -110,7 +110,7 @@ fn names(certificate: &[u64], a: usize, q: usize) -> bool
 // The points that a certificate names for the point `a`, rising.
 fn sum_fields(text: &mut [u8], at: usize, certificate: &[u64], a: usize) -> usize
     requires { ⌜ (at + 2069 ≤ length (now text)) × (length (now certificate) ≡ 4096) × (a < 512) ⌝ }
-    ensures { λ r. ⌜ Appends (fields (filter (bitOf (now (certificate .entry)) a) (below 512))) (now (text .entry)) (now (text .exit)) at r × (r ≤ at + 2048) ⌝ }
+    ensures { λ r. ⌜ Appends (fields (select (bitOf (now (certificate .entry)) a) (below 512))) (now (text .entry)) (now (text .exit)) at r × (r ≤ at + 2048) ⌝ }
 {
     let mut place = at;
     let mut q: usize = 0;
@@ -126,7 +126,7 @@ fn sum_fields(text: &mut [u8], at: usize, certificate: &[u64], a: usize) -> usiz
 // The sum of the point `a`.
 fn sum_line(text: &mut [u8], at: usize, side: u8, certificate: &[u64], a: usize) -> usize
     requires { ⌜ (at + 2126 ≤ length (now text)) × (length (now certificate) ≡ 4096) × (a < 512) ⌝ }
-    ensures { λ r. ⌜ Appends (sumLine side a (filter (bitOf (now (certificate .entry)) a) (below 512))) (now (text .entry)) (now (text .exit)) at r × (r ≤ at + 2105) ⌝ }
+    ensures { λ r. ⌜ Appends (sumLine side a (select (bitOf (now (certificate .entry)) a) (below 512))) (now (text .entry)) (now (text .exit)) at r × (r ≤ at + 2105) ⌝ }
 {
     let named = append_heading(text, at, b"side", side as u64, b" point", a as u64, b" sum");
     let end = sum_fields(text, named, certificate, a);

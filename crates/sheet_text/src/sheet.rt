@@ -2,12 +2,13 @@
 ghost use mathlib.Core.Path.{_≡_};
 ghost use Prim.Native.Nat.{ℕ, _+_, _≤_, _<_};
 ghost use lib.ListN.{length, take};
-ghost use Rattle.cube.specs.BuiltIn.{graded};
+ghost use Rattle.order.specs.BuiltIn.{graded};
 ghost use Rattle.io.specs.Counts.{Counts};
 ghost use Rattle.immunity.specs.Judgement.{judged};
 ghost use Rattle.immunity.specs.Certificate.{certificate as certificateOf};
 ghost use Rattle.hand_over.specs.HandOver.{ofSide};
-ghost use Rattle.immunity.specs.Demands.{JudgeAccepts, CertifyAccepts};
+ghost use Rattle.judge.specs.Judge.{JudgeAccepts};
+ghost use Rattle.certify.specs.Certify.{CertifyAccepts};
 ghost use Rattle.sheet_text.specs.Text.{Appends};
 ghost use Rattle.sheet_text.specs.Sheet.{degreeLine, sideSums, sums, filterSheet, sheet as sheetOf};
 use crate::lines::additions_line;
@@ -16,15 +17,15 @@ use crate::lines::first_line;
 use crate::lines::rank_lines;
 use crate::lines::refused_line;
 use crate::lines::sum_lines;
+use certify::CERTIFICATE;
+use certify::certify;
 use cube::POINTS;
 use cube::mask::count;
 use filter_file::read::Reading;
 use filter_file::read::read;
 use gf2::WORKSPACE;
-use immunity::certify::CERTIFICATE;
-use immunity::certify::certify;
-use immunity::judge::Finding;
-use immunity::judge::judge;
+use judge::Finding;
+use judge::judge;
 use refusal::number;
 
 // The sheet of the file is written at the front of the text. The result is its length.

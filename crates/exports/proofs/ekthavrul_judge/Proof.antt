@@ -4,10 +4,10 @@ use mathlib.Core.List.{List}
 use mathlib.Core.Option.{some}
 use Prim.Native.Nat.{ℕ}
 use Rattle.refusal.specs.Outcome.{Outcome, leftBy}
-use Rattle.immunity.specs.declared.judge.JudgeAnswer.{JudgeAnswer}
-use Rattle.immunity.specs.declared.judge.Finding.{Finding}
+use Rattle.judge.specs.declared.JudgeAnswer.{JudgeAnswer}
+use Rattle.judge.specs.declared.Finding.{Finding}
 use Rattle.immunity.specs.Judgement.{Judgement}
-use Rattle.immunity.specs.Judge.{found, Judges}
+use Rattle.judge.specs.Judge.{found, Judges}
 use Rattle.exports.specs.Status.{statusOf}
 use Rattle.exports.specs.Exported.{flat, JudgeStatus}
 use Rattle.exports.proofs.ekthavrul_judge.Statement.{statement}

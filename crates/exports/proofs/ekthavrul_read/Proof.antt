@@ -4,7 +4,7 @@ use lib.ListN.{length}
 use Rattle.refusal.specs.Outcome.{leftBy}
 use Rattle.filter_file.specs.Read.{readOutcome, outcomeOf}
 use Rattle.exports.specs.Status.{statusOf}
-use Rattle.exports.proofs.Numbers.{n-refused, n-accepted}
+use Rattle.exports.proofs.TapsRead.{n-refused, n-accepted}
 use Rattle.exports.proofs.ekthavrul_read.Statement.{statement}
 use Rattle.exports.proofs.ekthavrul_read.Tie as tie
 

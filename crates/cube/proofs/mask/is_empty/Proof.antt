@@ -2,7 +2,7 @@ use mathlib.Core.Path.{_≡_, sym, ap, _∙_}
 use Prim.Native.Nat.{_-_, _≤_}
 use native.Mathlib.Omega.{arith}
 use lib.ListN.{length}
-use Rattle.cube.specs.Numbers.{isEmpty}
+use Rattle.cube.specs.NumberLists.{isEmpty}
 use Rattle.cube.specs.Mask.{marked}
 use Rattle.cube.proofs.Masks.{markedFrom, marked-all, marked-here, marked-later, marked-none}
 use Rattle.cube.proofs.mask.is_empty.Statement.{statement}

@@ -7,8 +7,8 @@ use lib.Dec.{leb}
 use lib.ListN.{drop}
 use Rattle.refusal.specs.declared.Refusal.the-variants.{Range, EmptySet}
 use Rattle.refusal.specs.Outcome.{_otherwise_, checked}
-use Rattle.filter_file.specs.Drawn.{draw}
-use Rattle.filter_file.specs.Varint.{outcomeOf}
+use Rattle.varint.specs.Drawn.{draw}
+use Rattle.varint.specs.Varint.{outcomeOf}
 use Rattle.filter_file.specs.PointList.{pointsFrom, pointList, markDrawn}
 use Rattle.filter_file.proofs.list.list_at.Statement.{statement}
 use Rattle.filter_file.proofs.list.list_at.Tie as tie

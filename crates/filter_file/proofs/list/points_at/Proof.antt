@@ -8,9 +8,9 @@ use lib.Dec.{leb, ltb}
 use lib.ListN.{length, drop, set, length-set}
 use Rattle.refusal.specs.declared.Refusal.the-variants.{Range}
 use Rattle.refusal.specs.Outcome.{Outcome, refused, accepted, _otherwise_, checked}
-use Rattle.cube.specs.Mask.{mark}
-use Rattle.filter_file.specs.Drawn.{Drawn, _leaving_, draw}
-use Rattle.filter_file.specs.Varint.{varint, outcomeOf}
+use Rattle.cube.specs.Mask.{withOnes}
+use Rattle.varint.specs.Drawn.{Drawn, _leaving_, draw}
+use Rattle.varint.specs.Varint.{varint, outcomeOf}
 use Rattle.filter_file.specs.PointList.{before, pointsFrom, markDrawn}
 use Rattle.filter_file.proofs.list.points_at.Statement.{statement}
 use Rattle.filter_file.proofs.list.points_at.Tie as tie
@@ -24,10 +24,10 @@ turn m zero prev least s h = absurd (omega arith)
 turn m (suc k) prev least s h = let e : suc k - 1 ≡ k = omega arith in rw e
 
 -- a point that is marked at once is as one that is drawn before the others
-mark-before : (b : List ℕ) (p : ℕ) (o : Outcome (Drawn (List ℕ))) → markDrawn b (before p o) ≡ markDrawn (set b p 1) o
-unfolding mark
-mark-before b p (refused k) = refl
-mark-before b p (accepted (ps leaving rest)) = refl
+with-ones-before : (b : List ℕ) (p : ℕ) (o : Outcome (Drawn (List ℕ))) → markDrawn b (before p o) ≡ markDrawn (set b p 1) o
+unfolding withOnes
+with-ones-before b p (refused k) = refl
+with-ones-before b p (accepted (ps leaving rest)) = refl
 
 -- what is drawn and marked in all is what is drawn from here on, and marked in the bytes as they are
 record Going (o : Outcome (Drawn (List ℕ))) (m left prev least : ℕ) (s out : List ℕ) (long : ℕ) : Type 0 where
@@ -95,13 +95,13 @@ loop-again c =
     let p : ℕ = l .loop .prev + value in
     let rest : Outcome (Drawn (List ℕ)) = pointsFrom (a .size) (l .loop .left - 1) p 1 (drop (v .value .given .0 .1 .0) (a .file .now)) in
     record {
-      same = known v ∙ rw (le-leb (l .loop .least) value (omega arith), lt-ltb p (a .size) (omega arith)) (mark-before (l .loop .out) p rest);
+      same = known v ∙ rw (le-leb (l .loop .least) value (omega arith), lt-ltb p (a .size) (omega arith)) (with-ones-before (l .loop .out) p rest);
       full = length-set (l .loop .out) p 1 ∙ l .loop .inv .full;
       low = omega arith;
     }
 
 returns-4 : tie.Need-returns-4 Inv-loop μ-loop
-unfolding pointsFrom mark
+unfolding pointsFrom withOnes
 returns-4 c = let e : c .before .loop .left ≡ 0 = omega arith in sym (rw e at (c .before .loop .inv .same))
 
 pub points-at-spec : {M : Type 1} → statement M

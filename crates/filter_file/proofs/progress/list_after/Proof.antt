@@ -8,7 +8,7 @@ use Rattle.cube.proofs.Taps.{taps-range}
 use Rattle.refusal.specs.Outcome.{Outcome, accepted}
 use Rattle.filter_file.specs.declared.list.Listed.{Listed}
 use Rattle.filter_file.specs.declared.read.Reading.{Reading}
-use Rattle.filter_file.specs.Drawn.{Drawn, _leaving_, draw}
+use Rattle.varint.specs.Drawn.{Drawn, _leaving_, draw}
 use Rattle.filter_file.specs.PointList.{pointList, markDrawn, outcomeOf}
 use Rattle.filter_file.specs.Read.{outcomeOf as readingOf}
 use Rattle.filter_file.specs.Progress.{listAfter}

@@ -5,8 +5,8 @@ use lib.ListN.{drop}
 use Rattle.cube.specs.Cube.{taps}
 use Rattle.refusal.specs.declared.Refusal.the-variants.{Taps}
 use Rattle.refusal.specs.Outcome.{accepted, _otherwise_, after}
-use Rattle.filter_file.specs.Drawn.{_leaving_, draw}
-use Rattle.filter_file.specs.Varint.{outcomeOf}
+use Rattle.varint.specs.Drawn.{_leaving_, draw}
+use Rattle.varint.specs.Varint.{outcomeOf}
 use Rattle.filter_file.specs.Progress.{tapsOf}
 use Rattle.filter_file.proofs.progress.taps_at.Statement.{statement}
 use Rattle.filter_file.proofs.progress.taps_at.Tie as tie

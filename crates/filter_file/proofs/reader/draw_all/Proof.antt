@@ -39,7 +39,7 @@ use denote.Exit.{yes}
 use Rattle.filter_file.specs.declared.reader.Reader.{Reader}
 use Rattle.filter_file.specs.declared.progress.Progress.{Progress}
 use Rattle.filter_file.specs.Progress.{outcomeOf, beside, numbers}
-use Rattle.filter_file.proofs.Numbers.{numbers-drawn, taps-tapped, list-tapped}
+use Rattle.filter_file.proofs.NumbersDrawn.{numbers-drawn, taps-tapped, list-tapped}
 use Rattle.filter_file.proofs.Held.{Token, Tokens, own-twice, typed-local}
 use Rattle.filter_file.proofs.Calls.{New, DrawTaps, DrawList, Past, Held, readerAt, calls-new, calls-taps, calls-past, calls-list}
 use Rattle.filter_file.proofs.progress.Progress as S

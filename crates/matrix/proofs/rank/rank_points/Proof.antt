@@ -2,8 +2,8 @@ use borrow.Author.Needs.{needs}
 use mathlib.Core.Path.{sym, ap, _∙_, subst, subst₂}
 use lib.ListN.{length}
 use Rattle.cube.specs.Mask.{points}
-use Rattle.cube.specs.Order.{Graded, columns}
-use Rattle.cube.proofs.BuiltIn.{graded-is-graded}
+use Rattle.order.specs.Order.{Graded, columns}
+use Rattle.order.proofs.BuiltIn.{graded-is-graded}
 use Rattle.gf2.specs.Packed.{unpacked, zeros}
 use Rattle.gf2.proofs.Rows.{length-rows}
 use Rattle.matrix.specs.Workspace.{exponents, filled, Eliminates}

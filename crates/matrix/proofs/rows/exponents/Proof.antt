@@ -7,10 +7,10 @@ use Prim.Native.Nat.{_+_, _-_, _<_, _≤_}
 use native.Mathlib.Omega.{arith}
 use lib.Dec.{ltb}
 use lib.ListN.{length, getD, set, length-append}
-use Rattle.cube.specs.Numbers.{consIf, filter}
+use Rattle.cube.specs.NumberLists.{consIf, select}
 use Rattle.cube.specs.Cube.{size}
 use Rattle.matrix.specs.Workspace.{fillTo512}
-use Rattle.matrix.proofs.Listing.{firstExponents, exponents-few, exponents-next, exponents-all, fill-next}
+use Rattle.matrix.proofs.ExponentList.{firstExponents, exponents-few, exponents-next, exponents-all, fill-next}
 use Rattle.matrix.proofs.rows.exponents.Statement.{statement}
 use Rattle.matrix.proofs.rows.exponents.Tie as tie
 
@@ -22,7 +22,7 @@ abbrev μ-loop : tie.MeasureT-loop
 μ-loop order n points list₀ count₀ i₀ list count i = 512 - i
 
 loop-holds : tie.Need-loop-holds Inv-loop μ-loop
-unfolding filter
+unfolding select
 loop-holds c = (omega arith, refl, omega arith, refl)
 
 cast-if1 : tie.Need-cast-if1 Inv-loop μ-loop

@@ -7,7 +7,7 @@ use Rattle.cube.specs.Cube.{size}
 use Rattle.gf2.specs.Packed.{unpacked, rowOf}
 use Rattle.gf2.proofs.Rows.{length-rows}
 use Rattle.matrix.specs.Workspace.{filled}
-use Rattle.matrix.proofs.Listing.{length-exponents}
+use Rattle.matrix.proofs.ExponentList.{length-exponents}
 use Rattle.matrix.proofs.Filling.{filledFrom, filled-none, filled-next, filled-there, filled-all}
 use Rattle.matrix.proofs.rows.fill_rows.Statement.{statement}
 use Rattle.matrix.proofs.rows.fill_rows.Tie as tie

@@ -5,7 +5,7 @@ use native.Mathlib.Omega.{arith}
 use lib.Seq.{length-take-le}
 use borrow.Fn.Kinds.{In}
 use borrow.Fn.PlainCycle.{Measures, is, falls, and}
-use Rattle.polynomial.proofs.Parts.{no-tap, asks-first, asks-second, asks-add, whole-values}
+use Rattle.polynomial.proofs.HalvesInPlace.{no-tap, asks-first, asks-second, asks-add, whole-values}
 use Rattle.polynomial.proofs.convert.transform.Reads as reads
 use Rattle.polynomial.proofs.convert.transform.Kinds as kinds
 use Rattle.polynomial.proofs.convert.+transform.Lts-transform as lts

@@ -4,9 +4,9 @@ use mathlib.Core.List.{List}
 use Prim.Native.Nat.{ℕ, _+_, _-_, _*_, _≤_}
 use native.Mathlib.Omega.{arith}
 use lib.ListN.{length, getD}
-use Rattle.cube.specs.Numbers.{upFrom, below}
+use Rattle.cube.specs.NumberLists.{upFrom, below}
 use Rattle.cube.proofs.Masks.{below-snoc}
-use Rattle.immunity.specs.declared.judge.Ranks.{Ranks}
+use Rattle.immunity.specs.declared.Ranks.{Ranks}
 use Rattle.immunity.specs.Ranks.{noRanks}
 use Rattle.sheet_text.specs.Text.{joined, Appends}
 use Rattle.sheet_text.specs.Sheet.{rankLine}

@@ -5,8 +5,8 @@ use mathlib.Core.Logic.{⊎-elim}
 use Prim.Native.Nat.{ℕ, _+_, _-_, _*_, _≤_}
 use native.Mathlib.Omega.{arith}
 use lib.ListN.{length}
-use Rattle.cube.specs.Numbers.{upFrom, below, filter}
-use Rattle.cube.proofs.Masks.{filter-yes, filter-no}
+use Rattle.cube.specs.NumberLists.{upFrom, below, select}
+use Rattle.cube.proofs.Masks.{select-yes, select-no}
 use Rattle.immunity.specs.Certificate.{bitOf}
 use Rattle.sheet_text.specs.Text.{field, joined, fields, Appends}
 use Rattle.sheet_text.proofs.Appending.{appends-none, appends-moved, appends-next, appends-same}
@@ -19,7 +19,7 @@ use Rattle.sheet_text.proofs.text.append_field.Reads as append-field-re
 
 -- the points named below q are written
 abbrev Written : List ℕ → ℕ → ℕ → List ℕ → ℕ → List ℕ → ℕ → Type 0
-Written certificate a q text₀ at text place = Appends (fields (filter (bitOf certificate a) (below q))) text₀ text at place
+Written certificate a q text₀ at text place = Appends (fields (select (bitOf certificate a) (below q))) text₀ text at place
 
 abbrev Inv-loop : tie.InvT-loop
 Inv-loop text₀ at certificate a place₀ q₀ text place q =
@@ -29,7 +29,7 @@ abbrev μ-loop : tie.MeasureT-loop
 μ-loop text₀ at certificate a place₀ q₀ text place q = 512 - q
 
 loop-holds : tie.Need-loop-holds Inv-loop μ-loop
-unfolding joined filter upFrom
+unfolding joined select upFrom
 loop-holds c =
     let s = c .before .before in
     (omega arith, omega arith, refl, appends-none (s .args .text .now) (s .args .at))
@@ -58,13 +58,13 @@ loop-again c =
       omega arith,
       omega (arith, w .6, w .2 .ensures .1 .1 (omega arith)),
       ap length (w .5) ∙ w .2 .ensures .0 .long ∙ i .2,
-      appends-moved (w .5) (w .6) (appends-next field (filter t (below q)) _ q (filter-yes t q (sym (c .before .names .ensures) ∙ w .0 .taken)) (i .3) (w .2 .ensures .0)),
+      appends-moved (w .5) (w .6) (appends-next field (select t (below q)) _ q (select-yes t q (sym (c .before .names .ensures) ∙ w .0 .taken)) (i .3) (w .2 .ensures .0)),
     ))
     (λ w. (
       omega arith,
       omega (arith, w .2),
       ap length (w .1) ∙ i .2,
-      appends-moved (w .1) (w .2) (appends-same (sym (ap fields (filter-no t q (sym (c .before .names .ensures) ∙ w .0 .left)))) (i .3)),
+      appends-moved (w .1) (w .2) (appends-same (sym (ap fields (select-no t q (sym (c .before .names .ensures) ∙ w .0 .left)))) (i .3)),
     ))
     (c .if1 .came)
 

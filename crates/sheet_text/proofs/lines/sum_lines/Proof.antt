@@ -6,12 +6,12 @@ use Prim.Native.Nat.{ℕ, _+_, _-_, _*_, _≤_}
 use native.Mathlib.Omega.{arith}
 use lib.ListN.{length}
 use borrow.Author.Tests.{eq-eqb, ne-eqb}
-use Rattle.cube.specs.Numbers.{upFrom, below, filter}
+use Rattle.cube.specs.NumberLists.{upFrom, below, select}
 use Rattle.immunity.specs.Certificate.{bitOf}
 use Rattle.sheet_text.specs.Text.{joined, Appends}
 use Rattle.sheet_text.specs.Sheet.{sumLine}
 use Rattle.sheet_text.proofs.Appending.{appends-none, appends-moved, appends-next, appends-same}
-use Rattle.sheet_text.proofs.Outside.{outsideTo, outside-yes, outside-part, outside-set}
+use Rattle.sheet_text.proofs.OutsideTo.{outsideTo, outside-yes, outside-part, outside-set}
 use Rattle.sheet_text.proofs.lines.sum_lines.Statement.{statement}
 use Rattle.sheet_text.proofs.lines.sum_lines.Tie as tie
 use Rattle.sheet_text.proofs.lines.sum_lines.Reads as reads
@@ -20,7 +20,7 @@ use Rattle.sheet_text.proofs.lines.sum_line.Reads as sum-line-reads
 
 -- the line of a point
 abbrev lineOf : ℕ → List ℕ → ℕ → List ℕ
-lineOf side certificate a = sumLine side a (filter (bitOf certificate a) (below 512))
+lineOf side certificate a = sumLine side a (select (bitOf certificate a) (below 512))
 
 -- those of the points below a are written
 abbrev Written : ℕ → List ℕ → List ℕ → List ℕ → ℕ → List ℕ → ℕ → List ℕ → ℕ → Type 0
@@ -34,7 +34,7 @@ abbrev μ-loop : tie.MeasureT-loop
 μ-loop text₀ at side set table certificate place₀ a₀ text place a = 512 - a
 
 loop-holds : tie.Need-loop-holds Inv-loop μ-loop
-unfolding joined filter upFrom
+unfolding joined select upFrom
 loop-holds c =
     let s = c .before .before .before .before in
     (omega arith, omega arith, refl, appends-none (s .args .text .now) (s .args .at))

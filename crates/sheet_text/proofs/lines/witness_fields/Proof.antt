@@ -8,23 +8,23 @@ use native.Mathlib.Omega.{arith}
 use lib.ListN.{length, getD, take}
 use lib.Seq.{take-all}
 use borrow.Author.Tests.{eq-eqb, ne-eqb}
-use Rattle.cube.specs.Numbers.{filter}
+use Rattle.cube.specs.NumberLists.{select}
 use Rattle.cube.specs.Mask.{member}
-use Rattle.cube.specs.BuiltIn.{graded}
-use Rattle.cube.proofs.Listed.{filter-take-yes, filter-take-no}
-use Rattle.cube.proofs.BuiltIn.{graded-is-graded}
+use Rattle.order.specs.BuiltIn.{graded}
+use Rattle.cube.proofs.Listed.{select-take-yes, select-take-no}
+use Rattle.order.proofs.BuiltIn.{graded-is-graded}
 use Rattle.sheet_text.specs.Text.{field, joined, fields, Appends}
 use Rattle.sheet_text.proofs.Appending.{appends-none, appends-moved, appends-next, appends-same}
 use Rattle.sheet_text.proofs.lines.witness_fields.Statement.{statement}
 use Rattle.sheet_text.proofs.lines.witness_fields.Tie as tie
 use Rattle.sheet_text.proofs.lines.witness_fields.Reads as reads
 use Rattle.sheet_text.proofs.lines.witness_fields.Lts as lts
-use Rattle.cube.proofs.order.graded_order.Reads as graded-order-reads
+use Rattle.order.proofs.graded_order.Reads as graded-order-reads
 use Rattle.sheet_text.proofs.text.append_field.Reads as append-field-reads
 
 -- the exponents chosen among the first i are written
 abbrev Written : List ℕ → ℕ → List ℕ → ℕ → List ℕ → ℕ → Type 0
-Written witness i text₀ at text place = Appends (fields (filter (member witness) (take i graded))) text₀ text at place
+Written witness i text₀ at text place = Appends (fields (select (member witness) (take i graded))) text₀ text at place
 
 abbrev Inv-loop : tie.InvT-loop
 Inv-loop text₀ at witness order place₀ i₀ text place i =
@@ -45,7 +45,7 @@ graded-order-requires : tie.Need-graded-order-requires Inv-loop μ-loop
 graded-order-requires c κs = search needs
 
 loop-holds : tie.Need-loop-holds Inv-loop μ-loop
-unfolding joined filter
+unfolding joined select
 loop-holds c =
     let s = c .before .before .before in
     (omega arith, omega arith, refl, appends-none (s .args .text .now) (s .args .at))
@@ -90,8 +90,8 @@ loop-again c =
       omega (arith, w .6, w .2 .ensures .1 .1 (omega (arith, read-small l (omega arith)))),
       ap length (w .5) ∙ w .2 .ensures .0 .long ∙ v .2,
       appends-moved (w .5) (w .6)
-          (appends-next field (filter t (take i graded)) _ (getD graded i 0)
-          (filter-take-yes t graded i (omega (arith, graded-is-graded .long)) (subst (λ u. t u ≡ true) e (eq-eqb _ _ (w .0 .taken))))
+          (appends-next field (select t (take i graded)) _ (getD graded i 0)
+          (select-take-yes t graded i (omega (arith, graded-is-graded .long)) (subst (λ u. t u ≡ true) e (eq-eqb _ _ (w .0 .taken))))
           (v .3) (subst (λ u. Appends (field u) (l .loop .text) (w .2 .last .0) (l .loop .place) (w .2 .result)) e (w .2 .ensures .0))),
     ))
     (λ w. (
@@ -99,7 +99,7 @@ loop-again c =
       omega (arith, w .2),
       ap length (w .1) ∙ v .2,
       appends-moved (w .1) (w .2)
-          (appends-same (sym (ap fields (filter-take-no t graded i (omega (arith, graded-is-graded .long)) (subst (λ u. t u ≡ false) e (ne-eqb _ _ (w .0 .left)))))) (v .3)),
+          (appends-same (sym (ap fields (select-take-no t graded i (omega (arith, graded-is-graded .long)) (subst (λ u. t u ≡ false) e (ne-eqb _ _ (w .0 .left)))))) (v .3)),
     ))
     (c .if1 .came)
 
@@ -111,7 +111,7 @@ returns c =
     let l = c .before in
     let s = l .before .before .before .before in
     let e : take (l .loop .i) graded ≡ graded = take-all (l .loop .i) graded (omega (arith, graded-is-graded .long)) in
-    (appends-same (ap (λ o. fields (filter (member (s .args .witness .now)) o)) e) (l .loop .inv .3), omega arith)
+    (appends-same (ap (λ o. fields (select (member (s .args .witness .now)) o)) e) (l .loop .inv .3), omega arith)
 
 pub witness-fields-spec : {M : Type 1} → statement M
 witness-fields-spec =

@@ -5,14 +5,14 @@ use Prim.Native.Nat.{ℕ, _≤_}
 use native.Mathlib.Omega.{arith}
 use lib.ListN.{length, length-replicate}
 use Rattle.cube.specs.Mask.{points}
-use Rattle.cube.specs.BuiltIn.{graded}
+use Rattle.order.specs.BuiltIn.{graded}
 use Rattle.cube.proofs.Taps.{taps-range}
 use Rattle.immunity.specs.Judgement.{Judgement, judged}
-use Rattle.immunity.proofs.Passed.{Passed, judge-passed}
+use Rattle.judge.proofs.Passed.{Passed, judge-passed}
 use Rattle.sheet_text.specs.Text.{Appends}
 use Rattle.sheet_text.specs.Sheet.{firstLine, judgementSheet}
 use Rattle.sheet_text.proofs.Appending.{appends-then, appends-same}
-use Rattle.sheet_text.proofs.Accepted.{judge-found, judge-refuses, sums-accepted}
+use Rattle.sheet_text.proofs.SheetAccepts.{judge-found, judge-refuses, sums-accepted}
 use Rattle.sheet_text.proofs.sheet.filter_sheet.Statement.{statement}
 use Rattle.sheet_text.proofs.sheet.filter_sheet.Tie as tie
 

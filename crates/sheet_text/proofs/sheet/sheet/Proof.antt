@@ -11,7 +11,7 @@ use Rattle.io.specs.Counts.{Counts}
 use Rattle.filter_file.specs.Read.{readOutcome}
 use Rattle.sheet_text.specs.Text.{Appends}
 use Rattle.sheet_text.specs.Sheet.{sheet}
-use Rattle.sheet_text.proofs.Filters.{Filter, filter-judged, filter-sheet, read-filter, read-refused, refused-sheet}
+use Rattle.sheet_text.proofs.ReadFilter.{Filter, filter-judged, filter-sheet, read-filter, read-refused, refused-sheet}
 use Rattle.sheet_text.proofs.sheet.sheet.Statement.{statement}
 use Rattle.sheet_text.proofs.sheet.sheet.Tie as tie
 

@@ -4,7 +4,7 @@ use Prim.Native.Nat.{ℕ, _+_, _≤_}
 use lib.ListN.{length-replicate}
 use Rattle.sheet_text.specs.Text.{Appends}
 use Rattle.sheet_text.specs.Sheet.{sumLines, outside}
-use Rattle.sheet_text.proofs.Accepted.{certified-is}
+use Rattle.sheet_text.proofs.SheetAccepts.{certified-is}
 use Rattle.sheet_text.proofs.sheet.side_sums.Statement.{statement}
 use Rattle.sheet_text.proofs.sheet.side_sums.Tie as tie
 

@@ -1,0 +1,6 @@
+-- Laws of Certify.
+pub mod CertificateWords
+pub mod Certified
+pub mod Certifying
+pub mod Compared
+pub mod SumsOutside

@@ -1,0 +1,3 @@
+-- Certify, and what it does in the workspace.
+pub mod Certify
+pub mod Sums

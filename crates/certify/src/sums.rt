@@ -1,0 +1,79 @@
+// The sums of the points outside a part, in the workspace and in the certificate.
+ghost use mathlib.Core.Path.{_≡_};
+ghost use Prim.Native.Nat.{_<_, _+_, _≤_};
+ghost use lib.ListN.{length, set};
+ghost use Rattle.cube.specs.Mask.{points};
+ghost use Rattle.gf2.specs.Packed.{unpacked, zeroRow, Pivots, Places};
+ghost use Rattle.immunity.specs.Certificate.{numberAt};
+ghost use Rattle.certify.specs.Sums.{outsideRow, written, Sums};
+ghost use Rattle.matrix.specs.Combination.{followed, OutsidePlaces};
+use crate::CERTIFICATE;
+use cube::POINTS;
+use filter::part::is_outside;
+use gf2::ROW_WORDS;
+use gf2::basis::reduce_both;
+use matrix::FIRST_POINT;
+use matrix::combination::move_row;
+
+// The sum of the combinations of the rows that are added to the row of the point `a` is put in its place.
+fn combine_point(
+    ws: &mut [u64],
+    pivots: &[u16],
+    places: &[u16],
+    kept: usize,
+    a: usize,
+    columns: usize,
+)
+    requires { ⌜ (length (now ws) ≡ 8192) × (length (now pivots) ≡ 512) × (length (now places) ≡ 512) × (kept < 512) × (a < 512) × Pivots (now pivots) (unpacked (now ws)) kept × Places (now places) kept (512 + a) ⌝ }
+    ensures { λ _. ⌜ unpacked (now (ws .exit)) ≡ followed columns kept a zeroRow (now (places .entry)) (unpacked (now (ws .entry))) ⌝ }
+{
+    move_row(ws, kept, a, columns);
+    reduce_both(ws, pivots, places, kept, kept, FIRST_POINT + a);
+}
+
+// For each point of `set` outside `part` the sum of the combinations of the rows that are added to its row is put in
+// its place.
+pub fn combine_outside(
+    ws: &mut [u64],
+    pivots: &[u16],
+    places: &[u16],
+    kept: usize,
+    set: &[u8],
+    part: &[u8],
+    columns: usize,
+)
+    requires { ⌜ (length (now ws) ≡ 8192) × (length (now pivots) ≡ 512) × (length (now places) ≡ 512) × (length (now set) ≡ 512) × (length (now part) ≡ 512) × (kept ≤ length (points (now part))) × Pivots (now pivots) (unpacked (now ws)) kept × OutsidePlaces (now places) kept (now part) ⌝ }
+    ensures { λ _. ⌜ Sums (unpacked (now (ws .entry))) (unpacked (now (ws .exit))) columns kept (now (places .entry)) (now (set .entry)) (now (part .entry)) 512 ⌝ }
+{
+    let mut a: usize = 0;
+    while a < POINTS {
+        if is_outside(set, part, a) {
+            combine_point(ws, pivots, places, kept, a, columns);
+        }
+        a += 1;
+    }
+}
+
+// Number `i` of the certificate: of the row in the place of its point, if that is in `set` and outside `part`.
+fn certificate_word(ws: &[u64], set: &[u8], part: &[u8], i: usize) -> u64
+    requires { ⌜ (length (now ws) ≡ 8192) × (length (now set) ≡ 512) × (length (now part) ≡ 512) × (i < 4096) ⌝ }
+    ensures { λ r. ⌜ r ≡ numberAt (outsideRow (now (set .entry)) (now (part .entry)) (unpacked (now (ws .entry)))) i ⌝ }
+{
+    if is_outside(set, part, i / ROW_WORDS) {
+        return ws[FIRST_POINT * ROW_WORDS + i];
+    }
+    0
+}
+
+// The certificate becomes the rows in the places of the points that are in `set` and outside `part`, with zeros for all
+// other points.
+pub fn write_certificate(ws: &[u64], set: &[u8], part: &[u8], certificate: &mut [u64])
+    requires { ⌜ (length (now ws) ≡ 8192) × (length (now set) ≡ 512) × (length (now part) ≡ 512) × (length (now certificate) ≡ 4096) ⌝ }
+    ensures { λ _. ⌜ now (certificate .exit) ≡ written (now (set .entry)) (now (part .entry)) (unpacked (now (ws .entry))) ⌝ }
+{
+    let mut i: usize = 0;
+    while i < CERTIFICATE {
+        certificate[i] = certificate_word(ws, set, part, i);
+        i += 1;
+    }
+}

@@ -1,0 +1,32 @@
+-- The starred cases of document 01 hold: one test that antt computes.
+--   cases-hold   each case of the list
+use mathlib.Core.Path.{_≡_, refl}
+use mathlib.Core.Bool.{true, xor}
+use lib.Count.{ones, onesIn}
+use Rattle.cube.specs.NumberLists.{upFrom, consIf, select, lists, isEmpty}
+use Rattle.cube.specs.Cube.{within}
+use Rattle.cube.specs.Mask.{bitsThenZeros}
+use Rattle.order.specs.BuiltIn.{graded}
+use Rattle.gf2.specs.Vector.{add, total, dot, unit, chosen}
+use Rattle.gf2.specs.Elimination.{pivot, isZero, count, addIf, reduce, keepUnless, takePoint, takePoints}
+use Rattle.gf2.specs.Solve.{flip, solve}
+use Rattle.gf2.specs.Packed.{number}
+use Rattle.polynomial.specs.Polynomial.{sumBelow, value}
+use Rattle.polynomial.specs.Convert.{values, converted, convertOutcome, convertLeaves}
+use Rattle.polynomial.specs.Degree.{largest, degreeOutcome}
+use Rattle.matrix.specs.Matrix.{eliminated}
+use Rattle.matrix.specs.Rank.{rankOutcome}
+use Rattle.immunity.specs.Judgement.{differs, judged, buffer}
+use Rattle.immunity.specs.Certificate.{bitOf, certificate}
+use Rattle.judge.specs.Judge.{judgeOutcome}
+use Rattle.certify.specs.Certify.{certifyOutcome}
+use Rattle.demands.specs.Cases.{sameList, isDegree, onAccepted, isRefused, holdsFact, holdFacts, holds, holdAll, cases}
+
+-- each case of the list
+pub cases-hold : holdAll cases ≡ true
+unfolding holdAll cases holds holdFacts holdsFact sameList isDegree onAccepted isRefused
+    convertLeaves convertOutcome converted values degreeOutcome largest value sumBelow
+    rankOutcome judgeOutcome certifyOutcome judged differs buffer bitOf certificate number
+    eliminated takePoints takePoint keepUnless reduce addIf count isZero pivot solve flip dot unit add total chosen xor
+    graded bitsThenZeros within ones onesIn upFrom select consIf lists isEmpty
+cases-hold = refl

@@ -1,0 +1,6 @@
+-- The demands hold, and so do the starred cases.
+pub mod Cases
+pub mod Demand1
+pub mod Demand2
+pub mod Demand3
+pub mod Sample

@@ -1,0 +1,128 @@
+-- The demands on the whole, sentence by sentence, about the definitions that the contracts equate with what the code answers and leaves.
+--   ConvertAccepts n b              Convert accepts n taps and the bytes b
+--   RankAccepts b n d r             Rank accepts the points of the mask b at n taps and degree d, lent a workspace of the right length, and answers r
+--   Demand1                         a file is read in full or refused by its first number, and a refusal changes none of the lent buffers
+--   Demand2                         table and coefficients turn into each other, and every rank is that of the matrix of points against monomials
+--   Judgement3 n s f j              demand 3 of one n, set and table
+--   Demand3                         demand 3
+use mathlib.Core.Path.{_≡_}
+use mathlib.Core.Logic.{_↔_, _⊎_, _≢_}
+use mathlib.Core.List.{List}
+use mathlib.Core.Option.{some}
+use Prim.Native.Nat.{ℕ, _≤_, _<_}
+use lib.ListN.{length}
+use Rattle.cube.specs.NumberLists.{lists}
+use Rattle.cube.specs.Cube.{size}
+use Rattle.cube.specs.Mask.{member, points, mask}
+use Rattle.order.specs.BuiltIn.{graded}
+use Rattle.refusal.specs.Outcome.{Outcome, refused, accepted}
+use Rattle.polynomial.specs.Polynomial.{Polynomial, value, UpTo, HasDegree}
+use Rattle.polynomial.specs.declared.convert.Conversion.{Conversion}
+use Rattle.polynomial.specs.Convert.{convertOutcome, convertLeaves, Converts}
+use Rattle.gf2.specs.Rank.{Rank}
+use Rattle.gf2.specs.Packed.{zeros}
+use Rattle.matrix.specs.declared.rank.Ranked.{Ranked}
+use Rattle.matrix.specs.Matrix.{rows}
+use Rattle.matrix.specs.declared.rank.Ranking.{Ranking}
+use Rattle.matrix.specs.Rank.{rankOutcome, Ranks}
+use Rattle.filter_file.specs.declared.read.Reading.{Reading}
+use Rattle.filter_file.specs.File.{Contents, encode, Valid}
+use Rattle.varint.specs.Varint.{Bytes}
+use Rattle.filter_file.specs.Fault.{FileFault}
+use Rattle.filter_file.specs.Read.{readOutcome, Reads, reading}
+use Rattle.judge.specs.declared.JudgeAnswer.{JudgeAnswer}
+use Rattle.certify.specs.declared.Certification.{Certification}
+use Rattle.filter.specs.Part.{part}
+use Rattle.immunity.specs.Annihilator.{Annihilator}
+use Rattle.immunity.specs.Judgement.{Judgement, setRank, partRank, buffer, GivenEqual}
+use Rattle.immunity.specs.Certificate.{Certifies}
+use Rattle.judge.specs.Judge.{judgeOutcome, Judges, JudgeAccepts}
+use Rattle.certify.specs.Certify.{certifyOutcome, Certifying, CertifyAccepts}
+
+-- Convert accepts n taps and the bytes b
+abbrev pub ConvertAccepts : ℕ → List ℕ → Type 0
+ConvertAccepts n b = convertOutcome n b ≡ accepted tt
+
+-- Rank accepts the points of the mask b at n taps and degree d, lent a workspace of the right length, and answers r
+abbrev pub RankAccepts : List ℕ → ℕ → ℕ → Ranked → Type 0
+RankAccepts b n d r = rankOutcome b n d 8192 ≡ accepted r
+
+-- demand 1
+pub record Demand1 : Type 0 where
+  -- a valid file has no number: the file of each n, S and f that obey the rules is read as these
+  pub valid-read : (c : Contents) → Valid c → reading (encode c) ≡ accepted c
+  -- a file that is read is read in full: it is the file of what it is read as, and that obeys the rules
+  pub read-in-full : (file : List ℕ) (c : Contents) → Bytes file → reading file ≡ accepted c → (file ≡ encode c) × Valid c
+  -- a file is refused, by a number from 2 to 7, exactly when it is no such file
+  pub garbage-refused : (file : List ℕ) → Bytes file
+      → ((k : ℕ) × (reading file ≡ refused k) × (2 ≤ k) × (k ≤ 7)) ↔ ((c : Contents) → Valid c → file ≡ encode c → ⊥)
+  -- the number that refuses a file is that of its first fault
+  pub first-number : (file : List ℕ) (k : ℕ) → Bytes file → (reading file ≡ refused k) ↔ FileFault file k
+  -- before all of these, buffers that are not both 512 long are refused by 1
+  pub wrong-lengths : (k l : ℕ) (file : List ℕ) → (readOutcome k l file ≡ refused 1) ↔ ((k ≡ 512) × (l ≡ 512) → ⊥)
+  -- the points of each buffer are those of its list
+  pub set-points : (file : List ℕ) (c : Contents) → Bytes file → reading file ≡ accepted c → points (mask (lists (c .set))) ≡ c .set
+  pub table-points : (file : List ℕ) (c : Contents) → Bytes file → reading file ≡ accepted c → points (mask (lists (c .table))) ≡ c .table
+  -- what Read accepts, Judge accepts
+  pub read-judged : (file : List ℕ) (c : Contents) → Bytes file → reading file ≡ accepted c
+      → (j : Judgement) × JudgeAccepts (c .n) (mask (lists (c .set))) (mask (lists (c .table))) j
+  -- a refusal changes none of the lent buffers: of Read,
+  pub read-keeps : (o : Outcome Contents) (r : Reading) (s s′ f f′ : List ℕ) (k : ℕ) → Reads o r s s′ f f′ → o ≡ refused k → (s′ ≡ s) × (f′ ≡ f)
+  -- of Convert,
+  pub convert-keeps : (n : ℕ) (b b′ : List ℕ) (r : Conversion) (k : ℕ) → Converts n b b′ r → convertOutcome n b ≡ refused k → b′ ≡ b
+  -- of Rank,
+  pub rank-keeps : (b : List ℕ) (n d : ℕ) (ws ws′ : List ℕ) (r : Ranking) (k : ℕ) → Ranks b n d ws ws′ r
+      → rankOutcome b n d (length ws) ≡ refused k → ws′ ≡ ws
+  -- of Judge,
+  pub judge-keeps : (s f : List ℕ) (n : ℕ) (ws one zero ws′ one′ zero′ : List ℕ) (r : JudgeAnswer) (k : ℕ)
+      → Judges s f n ws one zero ws′ one′ zero′ r → judgeOutcome s f n (length ws) (length one) (length zero) ≡ refused k
+      → (ws′ ≡ ws) × (one′ ≡ one) × (zero′ ≡ zero)
+  -- and of Certify, save that 12 leaves the workspace zero
+  pub certify-keeps : (s f : List ℕ) (n side d : ℕ) (ws c ws′ c′ : List ℕ) (r : Certification) (k : ℕ)
+      → Certifying s f n side d ws c ws′ c′ r → certifyOutcome s f n side d (length ws) (length c) ≡ refused k
+      → (c′ ≡ c) × (k ≢ 12 → ws′ ≡ ws) × (k ≡ 12 → ws′ ≡ zeros (length ws))
+
+-- demand 2
+pub record Demand2 : Type 0 where
+  -- a table becomes coefficients: the polynomial that they choose has at every point the value of the table there
+  pub to-coefficients : (n : ℕ) (t : List ℕ) → ConvertAccepts n t → (a : ℕ) → a < size n → value n (member (convertLeaves n t)) a ≡ member t a
+  -- coefficients become a table: at every point the value there of the polynomial that they choose
+  pub to-table : (n : ℕ) (c : List ℕ) → ConvertAccepts n c → (a : ℕ) → a < size n → member (convertLeaves n c) a ≡ value n (member c) a
+  -- the coefficients of the table of a polynomial are the polynomial
+  pub only-coefficients : (n : ℕ) (p : Polynomial) (t : List ℕ) → ConvertAccepts n t → ((a : ℕ) → a < size n → member t a ≡ value n p a)
+      → (u : ℕ) → u < size n → member (convertLeaves n t) u ≡ p u
+  -- and back: what Convert leaves it accepts, and turns into what it was lent
+  pub back : (n : ℕ) (b : List ℕ) → ConvertAccepts n b → ConvertAccepts n (convertLeaves n b) × (convertLeaves n (convertLeaves n b) ≡ b)
+  -- Rank's rank is the rank over the field of two elements of the matrix of the mask's points against the monomials up to the degree
+  pub rank : (b : List ℕ) (n d : ℕ) (r : Ranked) → RankAccepts b n d r → Rank (rows graded n d (points b)) (r .rank)
+  -- so are the ranks that Judge gives: of the set
+  pub set-rank : (n : ℕ) (s f : List ℕ) (j : Judgement) → JudgeAccepts n s f j → (d : ℕ) → d ≤ n → Rank (rows graded n d (points s)) (setRank j d)
+  -- and of each part
+  pub part-rank : (n : ℕ) (s f : List ℕ) (j : Judgement) → JudgeAccepts n s f j → (side d : ℕ) → side ≤ 1 → d ≤ n
+      → Rank (rows graded n d (part side s f)) (partRank j side d)
+
+-- demand 3, of one n, set and table, and what Judge answers and leaves
+pub record Judgement3 (n : ℕ) (s f : List ℕ) (j : Judgement) : Type 0 where
+  -- the two ranks are equal exactly when no polynomial up to that degree is zero on the part and one somewhere on S
+  pub equal : (side d : ℕ) → side ≤ 1 → d ≤ n
+      → GivenEqual j side d ↔ ((p : Polynomial) → UpTo n d p → ¬ Annihilator n p (part side s f) (points s))
+  -- where they are equal, Certify's certificate names for each point of S outside the part points of the part whose rows sum to its row, and nothing else
+  pub certified : (side d : ℕ) → side ≤ 1 → d ≤ n → GivenEqual j side d
+      → (c : List ℕ) × CertifyAccepts n s f side d c × Certifies graded n d (points s) (part side s f) c
+  -- a degree is reported
+  pub k : ℕ
+  pub reported : j .degree ≡ some k
+  pub within : k ≤ n
+  -- it is the first at which either side's pair differs
+  pub before : (side d : ℕ) → side ≤ 1 → d < k → GivenEqual j side d
+  pub at : (¬ GivenEqual j 1 k) ⊎ (¬ GivenEqual j 0 k)
+  -- each side that differs there has a witness of exactly that degree, zero on its part, one somewhere on S
+  pub witness : (side : ℕ) → side ≤ 1 → ¬ GivenEqual j side k
+      → HasDegree n (member (buffer j side)) k × Annihilator n (member (buffer j side)) (part side s f) (points s)
+  -- every polynomial that is zero on either part and one somewhere on S has at least that degree
+  pub least : (side d : ℕ) (p : Polynomial) → side ≤ 1 → Annihilator n p (part side s f) (points s) → HasDegree n p d → k ≤ d
+
+-- demand 3
+pub record Demand3 : Type 0 where
+  -- for every n, set and table that Judge accepts (those of every accepted file among them: `read-judged` of demand 1)
+  pub every : (n : ℕ) (s f : List ℕ) (j : Judgement) → JudgeAccepts n s f j → Judgement3 n s f j

@@ -1,0 +1,3 @@
+-- The demands on the whole, and the starred cases.
+pub mod Cases
+pub mod Demands

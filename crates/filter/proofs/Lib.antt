@@ -1,0 +1,3 @@
+-- Laws of the parts of a set.
+pub mod Outside
+pub mod PartPoints

@@ -1,0 +1,3 @@
+-- The parts of a set.
+pub mod Outside
+pub mod Part

@@ -1,0 +1,12 @@
+-- The parts of a set: document 01, 'Words and sources'.
+--   part side s f   the points of the set s where the table f is `side`, rising: part 1 and part 0
+use mathlib.Core.List.{List}
+use Prim.Native.Nat.{ℕ}
+use lib.Dec.{eqb}
+use lib.ListN.{getD}
+use Rattle.cube.specs.NumberLists.{select}
+use Rattle.cube.specs.Mask.{points}
+
+-- the points of the set where the table is `side`
+abbrev pub part : ℕ → List ℕ → List ℕ → List ℕ
+part side s f = select (λ a. eqb (getD f a 0) side) (points s)

@@ -1,0 +1,47 @@
+// The parts of a set: its points where the table is 1, and those where it is 0.
+ghost use mathlib.Core.Path.{_≡_};
+ghost use Prim.Native.Nat.{_<_};
+ghost use lib.ListN.{length, set};
+ghost use Rattle.filter.specs.Outside.{isOutside};
+ghost use mathlib.Core.Bool.{_&&_};
+ghost use lib.Dec.{eqb};
+ghost use Rattle.cube.specs.Mask.{points, byte};
+ghost use Rattle.filter.specs.Part.{part};
+use cube::POINTS;
+
+// 1 where the byte of the set is 1 and that of the table is `side`, else 0.
+fn part_byte(point: u8, value: u8, side: u8) -> u8
+    ensures { λ r. ⌜ r ≡ byte (eqb point 1 && eqb value side) ⌝ }
+{
+    if point == 1 {
+        if value == side {
+            return 1;
+        }
+    }
+    0
+}
+
+// The mask of the points of `set` where `table` is `side`.
+pub fn part_mask(set: &[u8], table: &[u8], side: u8) -> [u8; 512]
+    requires { ⌜ (length (now set) ≡ 512) × (length (now table) ≡ 512) ⌝ }
+    ensures { λ r. ⌜ points r ≡ part side (now (set .entry)) (now (table .entry)) ⌝ }
+{
+    let mut mask = [0u8; POINTS];
+    let mut a: usize = 0;
+    while a < POINTS {
+        mask[a] = part_byte(set[a], table[a], side);
+        a += 1;
+    }
+    mask
+}
+
+// Whether the point `a` is in `set` and outside `part`.
+pub fn is_outside(set: &[u8], part: &[u8], a: usize) -> bool
+    requires { ⌜ (length (now set) ≡ 512) × (length (now part) ≡ 512) × (a < 512) ⌝ }
+    ensures { λ r. ⌜ r ≡ isOutside (now (set .entry)) (now (part .entry)) a ⌝ }
+{
+    if set[a] == 1 {
+        return part[a] != 1;
+    }
+    false
+}

@@ -1,0 +1,85 @@
+use borrow.Author.Needs.{needs}
+use mathlib.Core.Path.{_≡_, sym, _∙_}
+use Prim.Native.Nat.{ℕ, _+_}
+use native.Mathlib.Omega.{arith}
+use Rattle.cube.specs.NumberLists.{below}
+use Rattle.cube.specs.Mask.{points}
+use Rattle.matrix.specs.Matrix.{eliminated}
+use Rattle.immunity.specs.declared.Ranks.{Ranks}
+use Rattle.immunity.specs.Ranks.{ranksOf, ranksIn}
+use Rattle.judge.specs.Ready.{Ready}
+use Rattle.judge.proofs.Ready.{ready-after}
+use Rattle.judge.proofs.Degrees.{ranks-same, summed-three}
+use Rattle.judge.proofs.ranks.all_ranks.Statement.{statement}
+use Rattle.judge.proofs.ranks.all_ranks.Tie as tie
+
+-- the workspace is ready after the set was taken
+ready-one : (c : tie.After-mask-ranks) → let a = c .before .before .before .before .before .before .args in
+    Ready (a .order .now) (a .n) (c .mask-ranks .last .0) (a .set .now) (a .one .now) (a .zero .now)
+ready-one c =
+    let s = c .before .before .before .before .before .before in
+    ready-after (s .pre) (c .mask-ranks .last .0) (c .mask-ranks .kept .0) (c .mask-ranks .ensures .1 .1 .1)
+
+-- and after part 1 was
+ready-zero : (c : tie.After-mask-ranks2) → let a = c .before .before .before .before .before .before .before .before .before .before .args in
+    Ready (a .order .now) (a .n) (c .mask-ranks2 .last .0) (a .set .now) (a .one .now) (a .zero .now)
+ready-zero c = ready-after (ready-one (c .before .before .before .before)) (c .mask-ranks2 .last .0) (c .mask-ranks2 .kept .0) (c .mask-ranks2 .ensures .1 .1 .1)
+
+mask-ranks-requires-2 : tie.Need-mask-ranks-requires-2
+mask-ranks-requires-2 c κs =
+    let r = ready-one (c .before .before .before) in
+    (r .workspace, r .one, r .ordered, r .small, r .inside-one, r .rows)
+
+mask-ranks-requires-3 : tie.Need-mask-ranks-requires-3
+mask-ranks-requires-3 c κs =
+    let r = ready-zero (c .before .before .before) in
+    (r .workspace, r .zero, r .ordered, r .small, r .inside-zero, r .rows)
+
+add-t21 : tie.Need-add-t21
+add-t21 c =
+    let z = c .before .before .before .before .before .before .before .before .before in
+    let p = z .before .before .before .before in
+    let s = p .before .before .before .before in
+    omega (arith, s .mask-ranks .ensures .1 .1 .0, p .mask-ranks2 .ensures .1 .1 .0, z .mask-ranks3 .ensures .1 .1 .0)
+
+-- ranks are equal by parts
+ranks-by : {a b c x y z : ℕ} → a ≡ x → b ≡ y → c ≡ z → _≡_ {A = Ranks} (record { set = a; one = b; zero = c }) (record { set = x; one = y; zero = z })
+ranks-by e f g = cc
+
+-- and sums of three are
+sum-by : {a b c x y z : ℕ} → a ≡ x → b ≡ y → c ≡ z → a + b + c ≡ x + y + z
+sum-by e f g = omega arith
+
+returns : tie.Need-returns
+returns c =
+    let b = c .before .before .before in
+    let z = b .before .before .before .before .before .before in
+    let p = z .before .before .before .before in
+    let s = p .before .before .before .before in
+    let a = s .before .before .before .before .before .before .args in
+    let o = a .order .now in
+    let n = a .n in
+    let h = s .mask-ranks .ensures in
+    let h₁ = p .mask-ranks2 .ensures in
+    let h₂ = z .mask-ranks3 .ensures in (
+      b .by-degree .ensures
+          ∙ ranks-same (ranksIn (s .mask-ranks .result .ranks) (p .mask-ranks2 .result .ranks) (z .mask-ranks3 .result .ranks)) (λ d. ranksOf o n d (points (a .set .now)) (points (a .one .now)) (points (a .zero .now))) n
+          (λ d l. ranks-by (h .0 d l) (h₁ .0 d l) (h₂ .0 d l)) (below 10),
+      (
+        sum-by (h .1 .0) (h₁ .1 .0) (h₂ .1 .0) ∙ sym (summed-three (λ d. eliminated o n d (points (a .set .now)) .additions) (λ d. eliminated o n d (points (a .one .now)) .additions) (λ d. eliminated o n d (points (a .zero .now)) .additions) (below (n + 1))),
+        h₂ .1 .1 .1 ∙ h₁ .1 .1 .1 ∙ h .1 .1 .1,
+      ),
+    )
+
+pub all-ranks-spec : {M : Type 1} → statement M
+all-ranks-spec =
+    tie.close
+    (tie.spec
+    (λ c κs. search needs)
+    mask-ranks-requires-2
+    mask-ranks-requires-3
+    (λ c κs. search needs)
+    (λ c. search needs)
+    add-t21
+    (λ c. search needs)
+    returns)

@@ -1,0 +1,46 @@
+use Prim.Native.Nat.{_+_, _-_, _≤_}
+use native.Mathlib.Omega.{arith}
+use mathlib.Core.Path.{refl}
+use Rattle.immunity.specs.Ranks.{ranksIn}
+use Rattle.judge.proofs.Degrees.{RanksTo, ranks-none, ranks-next, ranks-all}
+use Rattle.judge.proofs.ranks.by_degree.Statement.{statement}
+use Rattle.judge.proofs.ranks.by_degree.Tie as tie
+
+abbrev Inv-loop : tie.InvT-loop
+Inv-loop n set one zero ranks₀ d₀ ranks d = (d ≤ n + 1) × RanksTo (ranksIn set one zero) d ranks
+
+abbrev μ-loop : tie.MeasureT-loop
+μ-loop n set one zero ranks₀ d₀ ranks d = n + 1 - d
+
+loop-holds : tie.Need-loop-holds Inv-loop μ-loop
+loop-holds c = (omega arith, ranks-none _)
+
+loop-again : tie.Need-loop-again Inv-loop μ-loop
+loop-again c =
+    let l = c .before in
+    (omega arith, ranks-next _ (l .loop .d) (l .loop .ranks) _ (omega arith) refl (l .loop .inv .1))
+
+returns : tie.Need-returns Inv-loop μ-loop
+returns c =
+    let l = c .before in
+    ranks-all _ _ (l .loop .d) (l .loop .ranks) (omega arith) (l .loop .inv .1)
+
+pub by-degree-spec : {M : Type 1} → statement M
+by-degree-spec =
+    tie.close
+    (tie.spec
+    Inv-loop
+    μ-loop
+    loop-holds
+    (λ c. omega arith)
+    (λ c. omega arith)
+    (λ c. omega arith)
+    (λ c. omega arith)
+    (λ c. omega arith)
+    (λ c. omega arith)
+    (λ c. omega arith)
+    (λ c. omega arith)
+    (λ c. omega arith)
+    (λ c. omega arith)
+    loop-again
+    returns)

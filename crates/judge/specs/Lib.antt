@@ -1,0 +1,4 @@
+-- Judge, and what it does in the workspace.
+pub mod Judge
+pub mod NewRow
+pub mod Ready

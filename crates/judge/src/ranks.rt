@@ -1,0 +1,144 @@
+// The ranks of a set and of its two parts at each degree, and the first degree at which they differ.
+ghost use mathlib.Core.Path.{_≡_};
+ghost use mathlib.Core.List.{map};
+ghost use mathlib.Core.Option.{none, some};
+ghost use mathlib.Core.Bool.{true, not};
+ghost use Prim.Native.Nat.{ℕ, _+_, _≤_};
+ghost use lib.Dec.{eqb, leb};
+ghost use lib.ListN.{length, getD, drop};
+ghost use Rattle.cube.specs.NumberLists.{below, Inside};
+ghost use Rattle.cube.specs.Cube.{taps, size as sizeOf};
+ghost use Rattle.cube.specs.Mask.{points, byte, mask};
+ghost use Rattle.order.specs.Order.{Graded};
+ghost use Rattle.gf2.specs.Packed.{unpacked};
+ghost use Rattle.matrix.specs.Matrix.{eliminated, rankOf};
+ghost use Rattle.matrix.specs.Workspace.{exponents, RowsFrom};
+ghost use Rattle.immunity.specs.First.{first};
+ghost use Rattle.immunity.specs.Judgement.{summed};
+ghost use Rattle.immunity.specs.Ranks.{noRanks, ranksIf, ranksIn, ranksUpTo, additionsOf, differ};
+ghost use Rattle.judge.specs.Ready.{Ready};
+use gf2::COLUMNS;
+use gf2::basis::count_below;
+use gf2::basis::sum_below;
+use immunity::Ranks;
+use matrix::tally::eliminate_tallied;
+use order::columns::column_count;
+
+// The number of degrees of nine taps.
+pub const DEGREES: usize = 10;
+
+// The ranks of one mask at each degree, and the additions of the eliminations that find them.
+struct MaskRanks {
+    ranks: [u16; 10],
+    additions: u32,
+}
+
+// The ranks at each degree, and all additions.
+pub struct FoundRanks {
+    pub ranks: [Ranks; 10],
+    pub additions: u32,
+}
+
+// The ranks of the points of one mask at each degree up to `n`, and all 0 past it: one elimination finds them all.
+fn mask_ranks(ws: &mut [u64], order: &[u16; 512], mask: &[u8], n: usize) -> MaskRanks
+    requires { ⌜ (length (now ws) ≡ 8192) × (length (now mask) ≡ 512) × Graded (now order) × (n ≤ 9) × Inside (sizeOf n) (points (now mask)) × RowsFrom (exponents (now order) n) n (unpacked (now ws)) 0 ⌝ }
+    ensures { λ r. ⌜ ((d : ℕ) → d ≤ n → getD (r .ranks) d 0 ≡ rankOf (now (order .entry)) n d (points (now (mask .entry)))) ⌝ }
+    ensures { λ r. ⌜ r .additions ≡ summed (λ d. eliminated (now (order .entry)) n d (points (now (mask .entry))) .additions) (below (n + 1)) ⌝ }
+    ensures { λ r. ⌜ (r .additions ≤ 1342177280) × (drop 512 (unpacked (now (ws .exit))) ≡ drop 512 (unpacked (now (ws .entry)))) ⌝ }
+{
+    let mut pivots = [0u16; COLUMNS];
+    let mut tally = [0u32; COLUMNS];
+    let kept = eliminate_tallied(ws, &mut pivots, &mut tally, mask);
+    let mut ranks = [0u16; DEGREES];
+    let mut additions: u32 = 0;
+    let mut d: usize = 0;
+    while d <= n {
+        let columns = column_count(order, n, d);
+        ranks[d] = count_below(&pivots, kept, columns) as u16;
+        additions += sum_below(&tally, columns);
+        d += 1;
+    }
+    MaskRanks { ranks, additions }
+}
+
+// The ranks of three masks at each degree up to `n`, side by side, and all 0 past it.
+fn by_degree(set: [u16; 10], one: [u16; 10], zero: [u16; 10], n: usize) -> [Ranks; 10]
+    requires { ⌜ n ≤ 9 ⌝ }
+    ensures { λ r. ⌜ r ≡ map (λ d. ranksIf (leb d n) (ranksIn set one zero d)) (below 10) ⌝ }
+{
+    let mut ranks = [Ranks {
+        set: 0,
+        one: 0,
+        zero: 0,
+    }; DEGREES];
+    let mut d: usize = 0;
+    while d <= n {
+        ranks[d] = Ranks {
+            set: set[d],
+            one: one[d],
+            zero: zero[d],
+        };
+        d += 1;
+    }
+    ranks
+}
+
+// The ranks of the points of three masks at each degree up to `n`, and all 0 past it.
+pub fn all_ranks(
+    ws: &mut [u64],
+    order: &[u16; 512],
+    set: &[u8],
+    one: &[u8],
+    zero: &[u8],
+    n: usize,
+) -> FoundRanks
+    requires { ⌜ Ready (now order) n (now ws) (now set) (now one) (now zero) ⌝ }
+    ensures { λ r. ⌜ r .ranks ≡ map (ranksUpTo (now (order .entry)) n (points (now (set .entry))) (points (now (one .entry))) (points (now (zero .entry)))) (below 10) ⌝ }
+    ensures { λ r. ⌜ r .additions ≡ summed (λ d. additionsOf (now (order .entry)) n d (points (now (set .entry))) (points (now (one .entry))) (points (now (zero .entry)))) (below (n + 1)) ⌝ }
+    ensures { λ r. ⌜ drop 512 (unpacked (now (ws .exit))) ≡ drop 512 (unpacked (now (ws .entry))) ⌝ }
+{
+    let s = mask_ranks(ws, order, set, n);
+    let p = mask_ranks(ws, order, one, n);
+    let q = mask_ranks(ws, order, zero, n);
+    let set_ranks = s.ranks;
+    let one_ranks = p.ranks;
+    let zero_ranks = q.ranks;
+    FoundRanks {
+        ranks: by_degree(set_ranks, one_ranks, zero_ranks, n),
+        additions: s.additions + p.additions + q.additions,
+    }
+}
+
+// Whether the rank of a part is not that of the set.
+fn part_differs(r: Ranks) -> bool
+    ensures { λ b. ⌜ b ≡ differ r ⌝ }
+{
+    if r.set != r.one {
+        return true;
+    }
+    r.set != r.zero
+}
+
+// The first degree up to `n` at which the rank of a part is not that of the set; `n` where there is none.
+pub fn first_difference(ranks: [Ranks; 10], n: usize) -> usize
+    requires { ⌜ n ≤ 9 ⌝ }
+    ensures { λ r. ⌜ ((k : ℕ) → first (λ d. differ (getD ranks d noRanks)) (below (n + 1)) ≡ some k → r ≡ k) ⌝ }
+    ensures { λ r. ⌜ r ≤ n ⌝ }
+{
+    let mut d: usize = 0;
+    while d < n {
+        let here = ranks[d];
+        if part_differs(here) {
+            return d;
+        }
+        d += 1;
+    }
+    n
+}
+
+// The side of the reported degree: 1 if the rank of part 1 is not that of the set, else 0.
+pub fn side_of(here: Ranks) -> u8
+    ensures { λ s. ⌜ s ≡ byte (not (eqb (here .set) (here .one))) ⌝ }
+{
+    if here.set != here.one { 1 } else { 0 }
+}

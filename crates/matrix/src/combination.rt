@@ -1,0 +1,76 @@
+// Combinations: the points whose rows sum to a row, as rows over points in the workspace. A point's place holds its row
+// until the point is taken, then such a row.
+ghost use mathlib.Core.Path.{_≡_};
+ghost use Prim.Native.Nat.{_+_, _≤_, _<_};
+ghost use lib.ListN.{length, set};
+ghost use Rattle.cube.specs.Mask.{points};
+ghost use Rattle.gf2.specs.Vector.{unit};
+ghost use Rattle.gf2.specs.Elimination.{isZero};
+ghost use Rattle.gf2.specs.Packed.{unpacked, rowOf, zeroRow, padded, Pivots, Places, oneMoreUnless};
+ghost use Rattle.matrix.specs.Workspace.{stored};
+ghost use Rattle.matrix.specs.Combination.{followed, Combines, OutsidePlaces};
+use crate::FIRST_POINT;
+use cube::POINTS;
+use gf2::basis::keep;
+use gf2::basis::reduce_both;
+use gf2::packed::clear_row;
+use gf2::packed::copy_columns;
+use gf2::packed::set_entry;
+
+// The first `columns` columns of the row of the point `a` are put behind the `kept` rows, and its place is cleared.
+pub fn move_row(ws: &mut [u64], kept: usize, a: usize, columns: usize)
+    requires { ⌜ (length (now ws) ≡ 8192) × (kept < 512) × (a < 512) ⌝ }
+    ensures { λ _. ⌜ unpacked (now (ws .exit)) ≡ set (set (unpacked (now (ws .entry))) kept (stored (unpacked (now (ws .entry))) columns a)) (512 + a) zeroRow ⌝ }
+{
+    copy_columns(ws, kept, FIRST_POINT + a, columns);
+    clear_row(ws, FIRST_POINT + a);
+}
+
+// The point `q` is taken: what is left of the first `columns` columns of its row is kept if it is not zero, and its
+// combination stands in the place of the point. The result is the number of kept rows.
+fn take_combining(
+    ws: &mut [u64],
+    pivots: &mut [u16],
+    places: &mut [u16],
+    kept: usize,
+    q: usize,
+    columns: usize,
+) -> usize
+    requires { ⌜ (length (now ws) ≡ 8192) × (length (now pivots) ≡ 512) × (length (now places) ≡ 512) × (kept < 512) × (q < 512) × Pivots (now pivots) (unpacked (now ws)) kept × Places (now places) kept (512 + q) ⌝ }
+    ensures { λ r. ⌜ unpacked (now (ws .exit)) ≡ followed columns kept q (padded 512 (unit q)) (now (places .entry)) (unpacked (now (ws .entry))) ⌝ }
+    ensures { λ r. ⌜ now (places .exit) ≡ set (now (places .entry)) kept (512 + q) ⌝ }
+    ensures { λ r. ⌜ (r ≡ oneMoreUnless (isZero (rowOf (unpacked (now (ws .exit))) kept)) kept) × (r ≤ kept + 1) ⌝ }
+    ensures { λ r. ⌜ Pivots (now (pivots .exit)) (unpacked (now (ws .exit))) r ⌝ }
+{
+    let place = FIRST_POINT + q;
+    move_row(ws, kept, q, columns);
+    set_entry(ws, place, q);
+    reduce_both(ws, pivots, places, kept, kept, place);
+    places[kept] = place as u16;
+    keep(ws, pivots, kept)
+}
+
+// The points of `part` are taken as in an elimination. The combination of each kept row stands at its place, which is
+// that of its point. The result is the number of kept rows.
+pub fn eliminate_combining(
+    ws: &mut [u64],
+    pivots: &mut [u16],
+    places: &mut [u16],
+    part: &[u8],
+    columns: usize,
+) -> usize
+    requires { ⌜ (length (now ws) ≡ 8192) × (length (now pivots) ≡ 512) × (length (now places) ≡ 512) × (length (now part) ≡ 512) ⌝ }
+    ensures { λ r. ⌜ Combines (unpacked (now (ws .entry))) (unpacked (now (ws .exit))) columns (points (now (part .entry))) r (now (places .exit)) ⌝ }
+    ensures { λ r. ⌜ r ≤ length (points (now (part .entry))) ⌝ }
+    ensures { λ r. ⌜ Pivots (now (pivots .exit)) (unpacked (now (ws .exit))) r × OutsidePlaces (now (places .exit)) r (now (part .entry)) ⌝ }
+{
+    let mut kept: usize = 0;
+    let mut q: usize = 0;
+    while q < POINTS {
+        if part[q] == 1 {
+            kept = take_combining(ws, pivots, places, kept, q, columns);
+        }
+        q += 1;
+    }
+    kept
+}

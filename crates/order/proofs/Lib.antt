@@ -1,0 +1,4 @@
+-- Laws of graded orders and of columns.
+pub mod BuiltIn
+pub mod ColumnCount
+pub mod DegreeColumns

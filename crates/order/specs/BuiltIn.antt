@@ -1,0 +1,20 @@
+-- The built-in order: document 01, 'Graded order and normal form'.
+--   ofWeights w k   the numbers below 512 of the k weights from w on, by weight, and by number within a weight
+--   graded          all 512 exponents, so ordered
+use mathlib.Core.List.{List, [], _++_}
+use Prim.Native.Nat.{ℕ, zero, suc}
+use lib.Count.{ones}
+use lib.Dec.{eqb}
+use Rattle.cube.specs.NumberLists.{upFrom, below, select}
+use Rattle.cube.specs.Cube.{weight}
+
+-- the numbers below 512 of the k weights from w on
+unfoldable pub ofWeights : ℕ → ℕ → List ℕ
+unfolding ones upFrom select
+ofWeights w zero = []
+ofWeights w (suc k) = select (λ u. eqb (weight u) w) (below 512) ++ ofWeights (suc w) k
+
+-- by weight, and by number within a weight
+unfoldable pub graded : List ℕ
+unfolding ofWeights
+graded = ofWeights 0 10

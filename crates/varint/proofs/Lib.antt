@@ -1,0 +1,5 @@
+-- Laws of house numbers, and of what is drawn from bytes.
+pub mod Continued
+pub mod Draws
+pub mod NumberFaults
+pub mod Varints

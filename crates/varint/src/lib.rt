@@ -1,0 +1,49 @@
+// The house numbers of document 01: varints (LEB128) of one or two groups of seven bits, in the shortest form.
+ghost use mathlib.Core.Path.{_≡_};
+ghost use Prim.Native.Nat.{_<_};
+ghost use lib.ListN.{drop};
+ghost use Rattle.varint.specs.Varint.{varint, outcomeOf};
+use refusal::Refusal;
+
+// What stands at a place of a file: a number, with the place after it, or why there is none.
+pub enum Varint {
+    Value { value: usize, next: usize },
+    Refused(Refusal),
+}
+
+// A byte as a number of the widest type.
+fn wide(x: u8) -> usize
+    ensures { λ r. ⌜ (r ≡ x) × (r < 256) ⌝ }
+{
+    x as usize
+}
+
+// The number at the place `at` of a file.
+pub fn varint_at(file: &[u8], at: usize) -> Varint
+    ensures { λ r. ⌜ outcomeOf (now (file .entry)) r ≡ varint (drop at (now (file .entry))) ⌝ }
+{
+    if file.len() <= at {
+        return Varint::Refused(Refusal::FileEnds);
+    }
+    let first = wide(file[at]);
+    if first < 128 {
+        return Varint::Value {
+            value: first,
+            next: at + 1,
+        };
+    }
+    if file.len() <= at + 1 {
+        return Varint::Refused(Refusal::FileEnds);
+    }
+    let second = wide(file[at + 1]);
+    if second < 1 {
+        return Varint::Refused(Refusal::NumberForm);
+    }
+    if second > 127 {
+        return Varint::Refused(Refusal::NumberForm);
+    }
+    Varint::Value {
+        value: first - 128 + 128 * second,
+        next: at + 2,
+    }
+}
