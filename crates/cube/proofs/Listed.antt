@@ -4,18 +4,18 @@
 --   not-listed        it fails for other numbers
 --   member-place      a member has a place
 --   place-member      what has a place is a member
---   filter-cases      what holds of a list with a first number kept or left out
---   member-filter     the members that a test keeps
---   filter-filter     of two tests the second of which is implied by the first, the first decides
---   filter-all        a test that each passes keeps all
---   length-filter     no more are kept than there are
---   filter-fewer      fewer are kept where a member does not pass
---   filter-snoc       what a test keeps of a list with one number more at its end
---   filter-take-yes   what a test keeps of the first numbers of a list, where the next one passes
---   filter-take-no    and where it does not
+--   select-cases      what holds of a list with a first number kept or left out
+--   member-select     the members that a test keeps
+--   select-select     of two tests the second of which is implied by the first, the first decides
+--   select-all        a test that each passes keeps all
+--   length-select     no more are kept than there are
+--   select-fewer      fewer are kept where a member does not pass
+--   select-snoc       what a test keeps of a list with one number more at its end
+--   select-take-yes   what a test keeps of the first numbers of a list, where the next one passes
+--   select-take-no    and where it does not
 --   Distinct xs       no number stands twice in the list
 --   distinct-places   a list whose places hold different numbers is distinct
---   distinct-filter   what a test keeps of a distinct list is distinct
+--   distinct-select   what a test keeps of a distinct list is distinct
 --   count-listed      a distinct list of numbers below m is as long as the count of its numbers
 --   member-all        m distinct numbers below m are all of them
 --   some-member       a list that is not empty has a member

@@ -2,9 +2,9 @@
 --   member-from     the numbers from one on
 --   length-from     how many they are
 --   below-snoc      the numbers below a bound, one number more
---   filter-below    what a test keeps of the numbers below a bound, one number more
---   filter-yes      the next number passes a test
---   filter-no       it does not
+--   select-below    what a test keeps of the numbers below a bound, one number more
+--   select-yes      the next number passes a test
+--   select-no       it does not
 --   value-at        a list of values for the numbers below m holds the value of each at its place
 --   markedFrom b i  the numbers from i on that the mask b marks: what a scan has yet to pass
 --   marked-all      from 0 on they are all
@@ -20,9 +20,10 @@
 --   points-inside   those of a well formed mask are points of n taps
 --   mask-member     a mask marks what passes its test
 --   points-fewer    a mask that does not mark a number below 512 marks fewer than 512
-use mathlib.Core.Path.{_≡_, refl, ap, _∙_}
+--   lists-marked    a number is listed among the points of a mask just if the mask marks it
+use mathlib.Core.Path.{_≡_, refl, sym, ap, _∙_}
 use mathlib.Core.Logic.{_↔_, _⊎_, inl, inr, ⊎-elim}
-use mathlib.Core.Bool.{Bool, true, false, not}
+use mathlib.Core.Bool.{Bool, true, false, not, false≢true}
 use mathlib.Core.List.{List, [], _∷_, _++_, map, append-nil, List·Memᴰ, List·Memᴰ·head, List·Memᴰ·tail, List·Memᴰ·not-nil, List·Memᴰ·cases-cons}
 use Prim.Native.Nat.{ℕ, zero, suc, _+_, _-_, _≤_, _<_}
 use native.Mathlib.Omega.{arith}
@@ -32,10 +33,10 @@ use native.Mathlib.Numerals.{add-one}
 use lib.Dec.{eqb, leb}
 use lib.ListN.{length, getD, List·getD-eq-default}
 use borrow.Author.Tests.{eqb-true, leb-true, eq-eqb, ne-eqb, le-leb}
-use Rattle.cube.specs.NumberLists.{upFrom, below, consIf, select, Inside}
+use Rattle.cube.specs.NumberLists.{upFrom, below, consIf, select, lists, Inside}
 use Rattle.cube.specs.Cube.{size}
 use Rattle.cube.specs.Mask.{bitsThenZeros, wellFormed, member, marked, points, byte, mask}
-use Rattle.cube.proofs.Listed.{and-both, member-select, select-snoc, select-fewer}
+use Rattle.cube.proofs.Listed.{and-both, lists-member, not-listed, member-select, select-snoc, select-fewer}
 
 -- the numbers from one on
 pub member-from : (u k v : ℕ) → List·Memᴰ v (upFrom u k) ↔ ((u ≤ v) × (v < u + k))
@@ -194,3 +195,11 @@ pub points-fewer : (b : List ℕ) (a : ℕ) → length b ≡ 512 → a < 512 →
 points-fewer b a l h e =
     let there : List·Memᴰ a (below (length b)) = member-from 0 (length b) a .1 (omega arith, omega arith) in
     omega (arith, select-fewer (member b) (below (length b)) there e, length-from 0 (length b))
+
+-- a number is listed among the points of a mask just if the mask marks it
+pub lists-marked : (b : List ℕ) (a : ℕ) → lists (points b) a ≡ member b a
+lists-marked b a = go (member b a) refl
+  where
+    go : (z : Bool) → member b a ≡ z → lists (points b) a ≡ z
+    go true e = lists-member (points b) a .1 (member-points b a .1 e)
+    go false e = not-listed (points b) a (λ m. false≢true (sym e ∙ member-points b a .0 m))

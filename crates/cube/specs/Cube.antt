@@ -1,6 +1,6 @@
--- The cube of n taps: document 01, 'Words and sources'.
+-- The cube of n taps: docs/SPECIFICATION.md, 'Words'.
 --   taps n         n is a number of taps, 1 to 9
---   size n         the number of points, and of exponents, of n taps: N in document 01
+--   size n         the number of points, and of exponents, of n taps: N
 --   within u a     the exponent u lies within the point a: the monomial u is then 1 at a
 --   weight u       the number of one bits of u
 use mathlib.Core.Bool.{Bool, _&&_}

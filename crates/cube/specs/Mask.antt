@@ -1,13 +1,13 @@
--- Sets, tables and coefficients as they are lent: 512 bytes.
+-- Sets, tables and coefficients as they are lent, 512 bytes: docs/SPECIFICATION.md, 'Buffers'.
 --   bitOrZero point x   a byte for a point is 0 or 1, another is 0
 --   allowed m i x       byte i of a mask of m points may be x
 --   bitsThenZeros m b   the first m bytes of b are 0 or 1, the others 0
---   wellFormed n b      byte a is 0 or 1 for a below N, and 0 from N on: the 0/1/0 rule of document 01
+--   wellFormed n b      byte a is 0 or 1 for a below N, and 0 from N on: the 0/1/0 rule
 --   member b a          the mask b marks the number a
 --   marked b            the numbers that the mask b marks, rising
 --   points b            the same of a set: its points
 --   byte b              1 for true, 0 for false
---   mark us b           the bytes b with 1 at each of the numbers us
+--   withOnes us b       the bytes b with 1 at each of the numbers us
 --   mask t              the 512 bytes that mark the numbers below 512 that pass a test
 use mathlib.Core.Bool.{Bool, true, false, _&&_}
 use mathlib.Core.List.{List, [], _∷_, map}

@@ -2,7 +2,7 @@
 --   upFrom u k       the k numbers from u on, rising
 --   below m          the numbers below m, rising
 --   consIf b x xs    x before the list xs, or not
---   filter t xs      the members of a list that pass a test, in order
+--   select t xs      the members of a list that pass a test, in order
 --   lists xs u       whether the number u stands in the list xs, as a test
 --   isEmpty xs       whether a list has no member
 --   Inside m xs      each number of the list is below m

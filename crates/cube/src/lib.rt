@@ -1,4 +1,4 @@
-// Points and exponents of up to nine taps: document 01, 'Words and sources'.
+// Points and exponents of up to nine taps: docs/SPECIFICATION.md, 'Words'.
 ghost use mathlib.Core.Path.{_≡_};
 ghost use Prim.Native.Nat.{_≤_};
 ghost use Rattle.cube.specs.Cube.{taps, size as sizeOf, within as withinOf, weight as weightOf};

@@ -1,3 +1,4 @@
--- Laws of the parts of a set.
-pub mod Outside
+-- Laws of filters, of their parts, and of what lies outside them.
+pub mod Filters
 pub mod PartPoints
+pub mod Outside

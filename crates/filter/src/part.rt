@@ -38,7 +38,7 @@ pub fn part_mask(set: &[u8], table: &[u8], side: u8) -> [u8; 512]
 // Whether the point `a` is in `set` and outside `part`.
 pub fn is_outside(set: &[u8], part: &[u8], a: usize) -> bool
     requires { ⌜ (length (now set) ≡ 512) × (length (now part) ≡ 512) × (a < 512) ⌝ }
-    ensures { λ r. ⌜ r ≡ isOutside (now (set .entry)) (now (part .entry)) a ⌝ }
+    ensures { λ r. ⌜ r ≡ isOutside (points (now (set .entry))) (points (now (part .entry))) a ⌝ }
 {
     if set[a] == 1 {
         return part[a] != 1;

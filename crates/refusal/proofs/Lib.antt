@@ -1,3 +1,3 @@
--- Laws of outcomes.
-pub mod Checks
+-- Laws of outcomes and of verdicts.
 pub mod Outcomes
+pub mod Verdicts

@@ -1,10 +1,10 @@
--- Refusals by their numbers in document 01.
+-- Refusals by their numbers: docs/SPECIFICATION.md, 'Refusals'.
 --   numberOf r   the number of the refusal r
 use Prim.Native.Nat.{ℕ}
 use Rattle.refusal.specs.declared.Refusal.{Refusal}
 use Rattle.refusal.specs.declared.Refusal.the-variants.{Length, FileEnds, NumberForm, Taps, Range, EmptySet, Surplus, Bytes, ZeroPolynomial, Degree, Side, RanksDiffer}
 
--- the number that document 01 gives a refusal
+-- the number of a refusal
 abbrev pub numberOf : Refusal → ℕ
 numberOf Length = 1
 numberOf FileEnds = 2

@@ -1,6 +1,8 @@
-// What an operation refuses, and the number that document 01 gives it.
+// What an operation refuses, and its number: docs/SPECIFICATION.md, 'Refusals'.
 ghost use mathlib.Core.Path.{_≡_};
 ghost use Rattle.refusal.specs.Refusal.{numberOf};
+
+pub mod verdict; // verdict.rt: the verdict of a list of checks
 
 pub enum Refusal {
     // 1: a lent buffer has the wrong length.
@@ -29,7 +31,7 @@ pub enum Refusal {
     RanksDiffer,
 }
 
-// The number of a refusal in document 01.
+// The number of a refusal.
 pub fn number(r: Refusal) -> u8
     ensures { λ k. ⌜ k ≡ numberOf r ⌝ }
 {

@@ -1,3 +1,4 @@
+-- The loop's invariant: number is how many of the numbers below i the mask marks; select-yes and select-no are the two cases of a turn.
 use mathlib.Core.Path.{_≡_, refl, sym, ap, _∙_}
 use mathlib.Core.List.{[], _∷_}
 use mathlib.Core.Logic.{⊎-elim}

@@ -1,3 +1,4 @@
+-- The loop's invariant: each byte of the mask below a is that of partTest; once all 512 are, part-points says that its points are the part.
 use mathlib.Core.Path.{_≡_, _∙_}
 use Prim.Native.Nat.{ℕ, _-_, _≤_, _<_}
 use native.Mathlib.Omega.{arith}

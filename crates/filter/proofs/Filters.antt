@@ -1,0 +1,42 @@
+-- What the shared checks show.
+--   a-filter     lengths, taps and masks that pass show a filter
+--   some-point   and that the set has a point
+--   passes       a filter whose set has a point passes what follows the taps
+--   few-taps     a filter has at most nine taps
+use mathlib.Core.Path.{_≡_, ap}
+use mathlib.Core.Bool.{true, false, not}
+use mathlib.Core.List.{List}
+use Prim.Native.Nat.{ℕ, _≤_}
+use lib.Dec.{eqb}
+use lib.ListN.{length}
+use borrow.Author.Tests.{eqb-true, not-true}
+use Rattle.refusal.proofs.Verdicts.{All}
+use Rattle.cube.specs.NumberLists.{isEmpty}
+use Rattle.cube.specs.Cube.{taps}
+use Rattle.cube.specs.Mask.{points}
+use Rattle.cube.proofs.Taps.{taps-range}
+use Rattle.filter.specs.Filter.{Filter}
+use Rattle.filter.specs.Checks.{filterMasks}
+
+module _ (n : ℕ) (s f : List ℕ) where
+  -- lengths, taps and masks that pass show a filter
+  pub a-filter : eqb (length s) 512 ≡ true → eqb (length f) 512 ≡ true → taps n ≡ true → All (filterMasks n s f) → Filter n s f
+  a-filter long-set long-table tapped (set, (table, _)) = record {
+    set-long = eqb-true (length s) 512 long-set;
+    table-long = eqb-true (length f) 512 long-table;
+    tapped = tapped;
+    set-formed = set;
+    table-formed = table;
+  }
+
+  -- and that the set has a point
+  pub some-point : All (filterMasks n s f) → isEmpty (points s) ≡ false
+  some-point (_, (_, (some, _))) = not-true _ some
+
+  -- a filter whose set has a point passes what follows the taps
+  pub passes : Filter n s f → isEmpty (points s) ≡ false → All (filterMasks n s f)
+  passes h some = (h .set-formed, (h .table-formed, (ap not some, tt)))
+
+  -- a filter has at most nine taps
+  pub few-taps : Filter n s f → n ≤ 9
+  few-taps h = taps-range n .0 (h .tapped) .1
