@@ -1,27 +1,33 @@
 -- What Rank answers.
---   ranked-is   elimination in the workspace finds the rank and the additions of the definition
---   refuses     a broken check
---   accepts     no check is broken
+--   ranked-is     elimination in the workspace finds the rank and the additions of the definition
+--   Passes        what the checks of Rank show
+--   rank-passed   checks that pass show it
+--   refuses       a broken check
+--   accepts       no check is broken
 use mathlib.Core.Path.{_≡_, sym, ap, ap₂, _∙_}
-use mathlib.Core.Bool.{true, false}
+use mathlib.Core.Bool.{true}
 use mathlib.Core.List.{List}
-use Prim.Native.Nat.{ℕ, _≤_, _<_}
+use Prim.Native.Nat.{ℕ, _≤_}
 use lib.ListN.{length}
 use Rattle.refusal.specs.Refusal.{numberOf}
-use Rattle.refusal.specs.Outcome.{refused, accepted, Check, left}
-use Rattle.refusal.proofs.Checks.{testAt, refusalAt, PassTo, broken-refuses, checked-accepts}
+use Rattle.refusal.specs.Outcome.{Outcome, refused, accepted, left}
+use Rattle.refusal.specs.declared.Refusal.{Refusal}
+use Rattle.refusal.specs.declared.verdict.Verdict.the-variants as verdicts
+use Rattle.refusal.specs.Verdict.{verdict}
+use Rattle.refusal.proofs.Verdicts.{passed-all, verdict-refuses, verdict-passes}
+use Rattle.cube.proofs.Taps.{taps-range}
+use borrow.Author.Tests.{eqb-true, leb-true}
 use Rattle.cube.specs.NumberLists.{Inside}
 use Rattle.cube.specs.Cube.{size}
 use Rattle.cube.specs.Mask.{wellFormed, points}
 use Rattle.order.specs.Order.{Graded, columns}
-use Rattle.order.specs.BuiltIn.{graded}
 use Rattle.cube.proofs.Masks.{points-inside}
 use Rattle.gf2.specs.Vector.{Row}
 use Rattle.gf2.specs.Packed.{zeros}
 use Rattle.matrix.specs.Workspace.{exponents, filled, RowsFrom, Eliminates}
-use Rattle.matrix.specs.Rank.{ranked, rankChecks, rankOutcome, workspaceAfter, Ranks}
+use Rattle.matrix.specs.Rank.{ranked, rankChecks, rankOutcome, RankContract}
 use Rattle.matrix.specs.declared.rank.Ranked.{Ranked}
-use Rattle.matrix.specs.declared.rank.Ranking.the-variants.{Refused, Accepted}
+use Rattle.matrix.specs.declared.rank.RankAnswer.the-variants.{Refused, Accepted}
 use Rattle.matrix.proofs.Stored.{filled-rows, kept-count, made-additions}
 
 -- elimination in the workspace finds the rank and the additions of the definition
@@ -37,21 +43,42 @@ ranked-is {o} g b n d t t′ k m s low w l l′ small h =
     (kept-count g n d s low t₁ there (points b) inside t′ k m h l′ small)
     (made-additions g n d s low t₁ there (points b) inside t′ k m h)
 
-module _ (b : List ℕ) (n d : ℕ) (ws : List ℕ) where
-  -- the checks of what is lent
-  abbrev checks : List Check
-  checks = rankChecks b n d (length ws)
+-- what the checks of Rank show
+pub record Passes (b : List ℕ) (n d m : ℕ) : Type 0 where
+  pub mask-long : length b ≡ 512
+  pub workspace-long : m ≡ 8192
+  pub few-taps : n ≤ 9
+  pub formed : wellFormed n b ≡ true
+  pub low : d ≤ n
+
+-- checks that pass show it
+pub rank-passed : (b : List ℕ) (n d m : ℕ) → verdict (rankChecks b n d m) ≡ verdicts.Passed → Passes b n d m
+rank-passed b n d m e =
+    let (mask, (workspace, (tapped, (formed, (degree, _))))) = passed-all (rankChecks b n d m) e in
+    record {
+      mask-long = eqb-true (length b) 512 mask;
+      workspace-long = eqb-true m 8192 workspace;
+      few-taps = taps-range n .0 tapped .1;
+      formed = formed;
+      low = leb-true d n degree;
+    }
+
+module _ (o b : List ℕ) (n d : ℕ) (ws : List ℕ) where
+  -- what Rank answers of what is lent
+  abbrev outcome : Outcome Ranked
+  outcome = rankOutcome o b n d (length ws)
 
   -- a broken check
-  pub refuses : (k : ℕ) → k < 5 → PassTo checks k → testAt checks k ≡ false → Ranks b n d ws ws (Refused (refusalAt checks k))
-  unfolding rankOutcome workspaceAfter
-  refuses k l h t =
-      let e : rankOutcome b n d (length ws) ≡ refused (numberOf (refusalAt checks k)) = broken-refuses checks _ k l h t in
-      record { answers = sym e; leaves = sym (ap (λ o. left o ws (zeros (length ws))) e) }
+  pub refuses : {x : Refusal} → verdict (rankChecks b n d (length ws)) ≡ verdicts.Refused x → RankContract outcome ws ws (Refused x)
+  unfolding rankOutcome
+  refuses {x} e =
+      let broken : outcome ≡ refused (numberOf x) = verdict-refuses (rankChecks b n d (length ws)) _ e in
+      record { answers = sym broken; leaves = sym (ap (λ y. left y ws (zeros (length ws))) broken) }
 
   -- no check is broken
-  pub accepts : PassTo checks 5 → (ws′ : List ℕ) (r : Ranked) → r ≡ ranked graded n d (points b) → ws′ ≡ zeros (length ws) → Ranks b n d ws ws′ (Accepted r)
-  unfolding rankOutcome workspaceAfter
-  accepts h ws′ r f z =
-      let e : rankOutcome b n d (length ws) ≡ accepted r = checked-accepts checks _ r .1 (h, ap accepted (sym f)) in
-      record { answers = sym e; leaves = z ∙ sym (ap (λ o. left o ws (zeros (length ws))) e) }
+  pub accepts : verdict (rankChecks b n d (length ws)) ≡ verdicts.Passed → {ws′ : List ℕ} {r : Ranked} → r ≡ ranked o n d (points b) → ws′ ≡ zeros (length ws)
+      → RankContract outcome ws ws′ (Accepted r)
+  unfolding rankOutcome
+  accepts e {ws′} {r} f z =
+      let passes : outcome ≡ accepted r = verdict-passes (rankChecks b n d (length ws)) _ e ∙ ap accepted (sym f) in
+      record { answers = sym passes; leaves = z ∙ sym (ap (λ y. left y ws (zeros (length ws))) passes) }

@@ -1,5 +1,5 @@
 -- The points of masks, and what a test keeps of them, rise.
---   rising-filter   what a test keeps of rising points rises
+--   rising-select   what a test keeps of rising points rises
 --   below-rising    the numbers below a bound rise
 --   points-rising   the points of a mask rise
 use mathlib.Core.Bool.{Bool}

@@ -1,4 +1,4 @@
--- The matrix of points against monomials up to a degree: document 01, 'Rank'.
+-- The matrix of points against monomials up to a degree: docs/SPECIFICATION.md, 'Elimination'.
 --   monomials us a        the monomials of the exponents us at the point a
 --   row o n d a           the row of the point a at degree d: a column for each exponent of weight at most d, in the order o
 --   rows o n d ps         the rows of the points ps

@@ -1,4 +1,4 @@
-// The elimination of document 01: the points of a mask are taken in rising number.
+// The elimination of docs/SPECIFICATION.md, 'Elimination': the points of a mask are taken in rising number.
 ghost use mathlib.Core.Path.{_≡_};
 ghost use Prim.Native.Nat.{_≤_, _<_};
 ghost use lib.ListN.{length};

@@ -1,4 +1,4 @@
-// The matrix of points against monomials up to a degree, and its rank: document 01, 'Rank'.
+// The matrix of points against monomials up to a degree, and its rank: docs/SPECIFICATION.md, 'Elimination' and 'Rank'.
 pub mod rows; // rows.rt: the rows of points in the workspace
 pub mod elimination; // elimination.rt: the points of a mask are taken in rising number
 pub mod tally; // tally.rt: the same at every number of columns at once

@@ -8,7 +8,6 @@ ghost use Rattle.gf2.specs.Packed.{unpacked, digit, number};
 ghost use Rattle.matrix.specs.Matrix.{monomials};
 ghost use Rattle.matrix.specs.Workspace.{exponents as exponentsOf, filled, RowsFrom, Splits};
 use crate::FIRST_POINT;
-use cube::Exponent;
 use cube::POINTS;
 use cube::Point;
 use cube::size;
@@ -17,12 +16,13 @@ use gf2::COLUMNS;
 use gf2::ROW_WORDS;
 use gf2::WORD_BITS;
 use gf2::packed::common_row;
+use order::exponent_at;
 
 // An exponent that lies within no point.
 const NO_EXPONENT: u16 = 65535;
 
 // The exponents of `n` taps in order, then an exponent that lies within no point.
-fn exponents(order: &[u16; 512], n: usize) -> [u16; 512]
+fn exponents(order: &[u16], n: usize) -> [u16; 512]
     requires { ⌜ Graded (now order) × (n ≤ 9) ⌝ }
     ensures { λ r. ⌜ r ≡ exponentsOf (now (order .entry)) n ⌝ }
 {
@@ -31,9 +31,9 @@ fn exponents(order: &[u16; 512], n: usize) -> [u16; 512]
     let mut count: usize = 0;
     let mut i: usize = 0;
     while i < POINTS {
-        let u = order[i];
-        if (u as usize) < points {
-            list[count] = u;
+        let u = exponent_at(order, i);
+        if (u.0 as usize) < points {
+            list[count] = u.0;
             count += 1;
         }
         i += 1;
@@ -57,7 +57,7 @@ fn row_word(exponents: &[u16; 512], from: usize, a: Point) -> u64
     let mut i: usize = WORD_BITS;
     while 0 < i {
         i -= 1;
-        w = w * 2 + bit(within(Exponent(exponents[from + i]), a));
+        w = w * 2 + bit(within(exponent_at(exponents, from + i), a));
     }
     w
 }
@@ -111,7 +111,7 @@ fn fill_point(ws: &mut [u64], exponents: &[u16; 512], n: usize, a: usize)
 }
 
 // The row of each point of `n` taps at degree `n` is put in its place.
-pub fn fill_rows(ws: &mut [u64], order: &[u16; 512], n: usize)
+pub fn fill_rows(ws: &mut [u64], order: &[u16], n: usize)
     requires { ⌜ (length (now ws) ≡ 8192) × Graded (now order) × (n ≤ 9) ⌝ }
     ensures { λ _. ⌜ unpacked (now (ws .exit)) ≡ filled (exponentsOf (now (order .entry)) n) n (unpacked (now (ws .entry))) ⌝ }
 {

@@ -1,4 +1,4 @@
--- The built-in order: document 01, 'Graded order and normal form'.
+-- The built-in order: docs/SPECIFICATION.md, 'Graded order'.
 --   ofWeights w k   the numbers below 512 of the k weights from w on, by weight, and by number within a weight
 --   graded          all 512 exponents, so ordered
 use mathlib.Core.List.{List, [], _++_}

@@ -6,6 +6,7 @@ ghost use lib.Dec.{ltb, leb};
 ghost use lib.ListN.{length};
 ghost use Rattle.cube.specs.Cube.{weight as weightOf};
 ghost use Rattle.order.specs.Order.{Graded, columns};
+use crate::exponent_at;
 use cube::Exponent;
 use cube::POINTS;
 use cube::size;
@@ -22,7 +23,7 @@ pub fn is_column(u: Exponent, points: usize, d: usize) -> bool
 }
 
 // The number of columns of `n` taps at degree `d`.
-pub fn column_count(order: &[u16; 512], n: usize, d: usize) -> usize
+pub fn column_count(order: &[u16], n: usize, d: usize) -> usize
     requires { ⌜ Graded (now order) × (n ≤ 9) ⌝ }
     ensures { λ r. ⌜ r ≡ length (columns (now (order .entry)) n d) ⌝ }
 {
@@ -30,7 +31,7 @@ pub fn column_count(order: &[u16; 512], n: usize, d: usize) -> usize
     let mut count: usize = 0;
     let mut i: usize = 0;
     while i < POINTS {
-        if is_column(Exponent(order[i]), points, d) {
+        if is_column(exponent_at(order, i), points, d) {
             count += 1;
         }
         i += 1;

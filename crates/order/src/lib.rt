@@ -1,6 +1,10 @@
-// The graded order of document 01: one constant table lists all 512 exponents by weight, and by number within a weight.
+// The graded order: docs/SPECIFICATION.md, 'Graded order'. One constant table lists all 512 exponents by weight, and by
+// number within a weight.
 ghost use mathlib.Core.Path.{_≡_};
+ghost use Prim.Native.Nat.{_<_};
+ghost use lib.ListN.{length, getD};
 ghost use Rattle.order.specs.BuiltIn.{graded};
+use cube::Exponent;
 
 pub mod columns; // columns.rt: the columns of a degree
 
@@ -524,4 +528,12 @@ pub fn graded_order() -> [u16; 512]
     ensures { λ r. ⌜ r ≡ graded ⌝ }
 {
     ORDER
+}
+
+// The exponent at place `i` of an order, or of another list of exponents: an order is read through here only.
+pub fn exponent_at(order: &[u16], i: usize) -> Exponent
+    requires { ⌜ i < length (now order) ⌝ }
+    ensures { λ r. ⌜ r .0 ≡ getD (now (order .entry)) i 0 ⌝ }
+{
+    Exponent(order[i])
 }

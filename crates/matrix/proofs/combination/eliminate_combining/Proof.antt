@@ -1,3 +1,4 @@
+-- The loop's invariant: the points below q are taken with their combinations (Combines), whose places are not that of the next point (places-apart).
 use mathlib.Core.Path.{_≡_, sym, ap, _∙_, subst}
 use mathlib.Core.Bool.{false≢true}
 use mathlib.Core.List.{List}

@@ -1,3 +1,4 @@
+-- The row is put behind the kept rows, and a unit row in the point's place (start-unit); reducing both is `followed`, and the kept rows stay.
 use borrow.Author.Needs.{needs}
 use mathlib.Core.Path.{_≡_, refl, ap, _∙_}
 use Prim.Native.Nat.{_+_}

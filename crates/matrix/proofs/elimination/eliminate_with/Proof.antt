@@ -1,3 +1,4 @@
+-- The loop's invariant: the kept rows and additions so far are those of the elimination of the points below a; each turn is a law of Taking.antt.
 use mathlib.Core.Path.{_≡_, ap, _∙_, subst}
 use mathlib.Core.List.{List}
 use mathlib.Core.Logic.{⊎-elim}

@@ -1,3 +1,4 @@
+-- The row is copied behind the kept rows and reduced there, which leaves their pivots (pivots-set); the law takes joins copy, reduction and keep.
 use borrow.Author.Needs.{needs}
 use mathlib.Core.Path.{_∙_}
 use Prim.Native.Nat.{_<_}

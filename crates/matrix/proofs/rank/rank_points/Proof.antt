@@ -1,51 +1,32 @@
 use borrow.Author.Needs.{needs}
-use mathlib.Core.Path.{sym, ap, _∙_, subst, subst₂}
+use mathlib.Core.Path.{ap, _∙_, subst₂}
 use lib.ListN.{length}
 use Rattle.cube.specs.Mask.{points}
-use Rattle.order.specs.Order.{Graded, columns}
-use Rattle.order.proofs.BuiltIn.{graded-is-graded}
+use Rattle.order.specs.Order.{columns}
 use Rattle.gf2.specs.Packed.{unpacked, zeros}
 use Rattle.gf2.proofs.Rows.{length-rows}
 use Rattle.matrix.specs.Workspace.{exponents, filled, Eliminates}
-use Rattle.matrix.specs.Rank.{ranked}
 use Rattle.matrix.proofs.Ranked.{ranked-is}
 use Rattle.matrix.proofs.rank.rank_points.Statement.{statement}
 use Rattle.matrix.proofs.rank.rank_points.Tie as tie
-
--- the built-in order is graded
-order-graded : (c : tie.After-graded-order) → Graded (c .graded-order .result)
-order-graded c = subst Graded (sym (c .graded-order .ensures)) graded-is-graded
-
-fill-rows-requires : tie.Need-fill-rows-requires
-fill-rows-requires c κs =
-    let o = c .before .before in
-    let s = o .before .before .before in
-    (s .pre .1, order-graded o, s .pre .2)
-
-column-count-requires : tie.Need-column-count-requires
-column-count-requires c κs =
-    let o = c .before .before .before .before .before .before .before in
-    (order-graded o, o .before .before .before .pre .2)
 
 returns : tie.Need-returns
 returns c =
     let k = c .before .before in
     let e = k .before .before .before .before in
     let g = e .before in
-    let f = g .before .before .before .before .before in
-    let o = f .before .before .before in
-    let s = o .before .before .before in
+    let f = g .before .before .before .before in
+    let s = f .before .before .before .before .before in
     let b = s .args .mask .now in
     let n = s .args .n in
     let d = s .args .d in
     let ws = s .args .workspace .now in
-    let order = o .graded-order .result in
+    let o = s .args .order .now in
     let r = e .eliminate .result in
     let ws′ = e .eliminate .last .0 in
-    let h : Eliminates (filled (exponents order n) n (unpacked ws)) (unpacked ws′) (length (columns order n d)) (points b) (r .kept) (r .additions) =
+    let h : Eliminates (filled (exponents o n) n (unpacked ws)) (unpacked ws′) (length (columns o n d)) (points b) (r .kept) (r .additions) =
     subst₂ (λ t m. Eliminates t (unpacked ws′) m (points b) (r .kept) (r .additions)) (f .fill-rows .ensures) (g .column-count .ensures) (e .eliminate .ensures .0) in (
-      ranked-is (order-graded o) b n d (unpacked ws) (unpacked ws′) _ _ (s .pre .2) (s .pre .3) (s .pre .4) (length-rows 1024 ws) (length-rows 1024 ws′) (e .eliminate .ensures .1 .0) h
-          ∙ ap (λ x. ranked x n d (points b)) (o .graded-order .ensures),
+      ranked-is (s .pre .5) b n d (unpacked ws) (unpacked ws′) _ _ (s .pre .2) (s .pre .3) (s .pre .4) (length-rows 1024 ws) (length-rows 1024 ws′) (e .eliminate .ensures .1 .0) h,
       k .clear .ensures ∙ ap zeros (e .eliminate .kept .0 ∙ f .fill-rows .kept .0),
     )
 
@@ -54,8 +35,7 @@ rank-points-spec =
     tie.close
     (tie.spec
     (λ c κs. search needs)
-    fill-rows-requires
-    column-count-requires
+    (λ c κs. search needs)
     (λ c κs. search needs)
     (λ c κs. search needs)
     (λ c. search needs)

@@ -1,3 +1,4 @@
+-- The loop's invariant: the list is the exponents of n taps among the first i of the order, `count` of them, filled up to 512 numbers.
 use borrow.Author.Needs.{needs}
 use borrow.Author.Tests.{lt-ltb, le-ltb}
 use mathlib.Core.Path.{_≡_, refl, sym, ap, ap₂, _∙_}
@@ -25,42 +26,38 @@ loop-holds : tie.Need-loop-holds Inv-loop μ-loop
 unfolding select
 loop-holds c = (omega arith, refl, omega arith, refl)
 
-cast-if1 : tie.Need-cast-if1 Inv-loop μ-loop
-cast-if1 c =
-    let l = c .before .before in
-    omega (arith, l .before .before .pre .0 .inside (l .loop .i) (c .before .loop-test .taken))
-
 loop-again : tie.Need-loop-again Inv-loop μ-loop
 unfolding consIf
 loop-again c =
-    let l = c .before .before .before in
-    let s = l .before .before in
+    let l = c .before .before .before .before in
+    let s = l .before .before .before in
     let o = s .args .order .now in
     let g = s .pre .0 in
     let n = s .args .n in
     let i = l .loop .i in
     let x = getD o i 0 in
+    let e : c .before .before .exponent-at .result .0 ≡ x = c .before .before .exponent-at .ensures in
     let z : l .before .size .result ≡ size n = l .before .size .ensures .0 (s .pre .1) in
     let k = firstExponents o n i in
     let step : firstExponents o n (i + 1) ≡ k ++ consIf (ltb x (size n)) x [] = exponents-next g n i (omega arith) in
     ⊎-elim
     (λ w.
-    let next : firstExponents o n (i + 1) ≡ k ++ (x ∷ []) = step ∙ ap (λ b. k ++ consIf b x []) (lt-ltb x (size n) (omega (arith, z, w .0 .taken))) in
+    let next : firstExponents o n (i + 1) ≡ k ++ (x ∷ []) = step ∙ ap (λ b. k ++ consIf b x []) (lt-ltb x (size n) (omega (arith, z, e, w .0 .taken))) in
     let few : length k < 512 = omega (arith, exponents-few g n i (omega arith)) in (
       omega arith,
       w .2 ∙ ap (λ m. m + 1) (l .loop .inv .1) ∙ sym (ap length next ∙ length-append k (x ∷ [])),
       omega (arith, w .2),
-      w .1 ∙ ap₂ (λ ys m. set ys m x) (l .loop .inv .3) (l .loop .inv .1) ∙ fill-next k x few ∙ ap fillTo512 (sym next),
+      w .1 ∙ ap (set (l .loop .list) (l .loop .count)) e ∙ ap₂ (λ ys m. set ys m x) (l .loop .inv .3) (l .loop .inv .1) ∙ fill-next k x few ∙ ap fillTo512 (sym next),
     ))
     (λ w.
-    let next : firstExponents o n (i + 1) ≡ k = step ∙ ap (λ b. k ++ consIf b x []) (le-ltb x (size n) (omega (arith, z, w .0 .left))) ∙ append-nil k in
+    let next : firstExponents o n (i + 1) ≡ k = step ∙ ap (λ b. k ++ consIf b x []) (le-ltb x (size n) (omega (arith, z, e, w .0 .left))) ∙ append-nil k in
     (omega arith, w .2 ∙ l .loop .inv .1 ∙ ap length (sym next), omega (arith, w .2), w .1 ∙ l .loop .inv .3 ∙ ap fillTo512 (sym next)))
     (c .if1 .came)
 
 returns : tie.Need-returns Inv-loop μ-loop
 returns c =
     let l = c .before in
-    let s = l .before .before in
+    let s = l .before .before .before in
     l .loop .inv .3 ∙ exponents-all (s .pre .0) (s .args .n) (l .loop .i) (omega arith)
 
 pub exponents-spec : {M : Type 1} → statement M
@@ -71,9 +68,8 @@ exponents-spec =
     μ-loop
     (λ c κs. search needs)
     loop-holds
+    (λ c κs. search needs)
     (λ c. omega arith)
-    (λ c. omega arith)
-    cast-if1
     (λ c. omega arith)
     (λ c. omega arith)
     (λ c. omega arith)

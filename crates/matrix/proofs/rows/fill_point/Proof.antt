@@ -1,3 +1,4 @@
+-- Where the point is the common bits of two points above it, whose rows are in place, its monomials are the common ones of theirs (common-monomials).
 use borrow.Author.Needs.{needs}
 use mathlib.Core.Path.{ap, ap₂, _∙_}
 use Prim.Native.Nat.{_+_, _≤_}

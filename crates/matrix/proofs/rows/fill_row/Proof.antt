@@ -1,3 +1,4 @@
+-- The loop's invariant: the first k numbers of the row are those of the point's packed monomials, all else is unchanged; unpack-pack ends it.
 use mathlib.Core.Path.{_≡_, sym, ap, _∙_}
 use mathlib.Core.Bool.{Bool}
 use mathlib.Core.List.{List}

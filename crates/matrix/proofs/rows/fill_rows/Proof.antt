@@ -1,3 +1,4 @@
+-- The loop's invariant: the rows of the points from a on are in their places (filledFrom), which is what fill_point asks for the point below a.
 use borrow.Author.Needs.{needs}
 use mathlib.Core.Path.{_≡_, sym, ap, _∙_}
 use Prim.Native.Nat.{_+_, _-_, _≤_}
@@ -21,7 +22,7 @@ abbrev μ-loop : tie.MeasureT-loop
 loop-holds : tie.Need-loop-holds Inv-loop μ-loop
 loop-holds c =
     let x = c .before in
-    let s = x .before .before in
+    let s = x .before .before .before in
     let t = unpacked (s .args .ws .now) in
     let all = c .size .ensures .0 (s .pre .2) in
     (omega (arith, all), s .pre .0, filled-none (x .exponents .result) (s .args .n) t ∙ ap (filledFrom (x .exponents .result) (s .args .n) t) (sym all))
@@ -30,7 +31,7 @@ fill-point-requires : tie.Need-fill-point-requires Inv-loop μ-loop
 fill-point-requires c κs =
     let l = c .before .before .before in
     let x = l .before .before in
-    let s = x .before .before in
+    let s = x .before .before .before in
     let n = s .args .n in
     let us = x .exponents .result in
     let t = unpacked (s .args .ws .now) in
@@ -48,7 +49,7 @@ loop-again c =
     let f = c .before .before in
     let l = f .before .before .before .before in
     let x = l .before .before in
-    let s = x .before .before in
+    let s = x .before .before .before in
     let n = s .args .n in
     let us = x .exponents .result in
     let t = unpacked (s .args .ws .now) in
@@ -64,7 +65,7 @@ returns : tie.Need-returns Inv-loop μ-loop
 returns c =
     let l = c .before in
     let x = l .before .before in
-    let s = x .before .before in
+    let s = x .before .before .before in
     let n = s .args .n in
     let us = x .exponents .result in
     let t = unpacked (s .args .ws .now) in

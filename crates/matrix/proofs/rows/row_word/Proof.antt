@@ -1,3 +1,4 @@
+-- The loop's invariant, from 64 down: the bits of w are the columns from place i of the 64 on, which are 64 - i, so that w * 2 + 1 fits.
 use borrow.Author.Needs.{needs}
 use mathlib.Core.Path.{_≡_, refl, sym, ap, ap₂, _∙_, subst}
 use mathlib.Core.Bool.{Bool, true, false}
@@ -70,14 +71,16 @@ mul-w : tie.Need-mul-w Inv-loop μ-loop
 mul-w c = omega (arith, fits c)
 
 add-w : tie.Need-add-w Inv-loop μ-loop
-add-w c = omega (arith, fits (c .before .before .before), c .bit .ensures, digit-few (c .before .within .result))
+add-w c = omega (arith, fits (c .before .before .before .before), c .bit .ensures, digit-few (c .before .within .result))
 
 loop-again : tie.Need-loop-again Inv-loop μ-loop
 loop-again c =
-    let l = c .before .before .before .before in
+    let l = c .before .before .before .before .before in
     let s = l .before in
     let e = step (s .args .exponents .now) (s .args .from) (s .args .a .0) (long s) (l .loop .i) (omega arith) (omega arith) in
-    (omega arith, ap₂ (λ w x. w * 2 + x) (l .loop .inv .1) (c .bit .ensures ∙ ap digit (c .before .within .ensures)) ∙ sym e)
+    let x : c .before .within .result ≡ within (getD (s .args .exponents .now) (s .args .from + (l .loop .i - 1)) 0) (s .args .a .0) =
+    c .before .within .ensures ∙ ap (λ u. within u (s .args .a .0)) (c .before .before .exponent-at .ensures) in
+    (omega arith, ap₂ (λ w x. w * 2 + x) (l .loop .inv .1) (c .bit .ensures ∙ ap digit x) ∙ sym e)
 
 returns : tie.Need-returns Inv-loop μ-loop
 returns c =
@@ -98,8 +101,7 @@ row-word-spec =
     (λ c. omega arith)
     mul-w
     (λ c. omega arith)
-    (λ c. omega arith)
-    (λ c. omega arith)
+    (λ c κs. search needs)
     (λ c κs. search needs)
     (λ c κs. search needs)
     add-w

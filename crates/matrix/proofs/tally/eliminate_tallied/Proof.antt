@@ -1,3 +1,4 @@
+-- The loop's invariant: the points below a are taken (EliminatesAll), no number of the tally is above a * 512; each turn is a law of Tallied.antt.
 use mathlib.Core.Path.{_≡_, sym, ap, _∙_, subst}
 use mathlib.Core.List.{List}
 use mathlib.Core.Logic.{⊎-elim}

@@ -1,3 +1,4 @@
+-- The row is copied whole (cut-all) behind the kept rows, whose pivots stay (pivots-set); takes-all joins copy, tallied reduction and keep.
 use borrow.Author.Needs.{needs}
 use mathlib.Core.Path.{_≡_, ap, _∙_}
 use Prim.Native.Nat.{_<_}

@@ -1,5 +1,6 @@
+-- The loop's invariant: count, and how many columns the order has from place i on, make the number of columns; columns-next is a turn.
 use borrow.Author.Needs.{needs}
-use mathlib.Core.Path.{_≡_, sym, ap, _∙_}
+use mathlib.Core.Path.{_≡_, sym, ap, ap₂, _∙_}
 use mathlib.Core.Bool.{_&&_}
 use mathlib.Core.Logic.{⊎-elim}
 use Prim.Native.Nat.{_+_, _-_, _≤_}
@@ -25,13 +26,13 @@ loop-holds c = (omega arith, omega arith, omega arith)
 loop-again : tie.Need-loop-again Inv-loop μ-loop
 loop-again c =
     let l = c .before .before .before .before in
-    let s = l .before .before in
+    let s = l .before .before .before in
     let n = s .args .n in
     let d = s .args .d in
     let i = l .loop .i in
     let x = getD (s .args .order .now) i 0 in
     let b : c .before .is-column .result ≡ isColumn n d x = c .before .is-column .ensures
-    ∙ ap (λ m. ltb x m && leb (weight x) d) (l .before .size .ensures .0 (s .pre .1)) in
+    ∙ ap₂ (λ m y. ltb y m && leb (weight y) d) (l .before .size .ensures .0 (s .pre .1)) (c .before .before .exponent-at .ensures) in
     let next = columns-next (s .pre .0) n d i (omega arith) in
     ⊎-elim
     (λ w. let e : byte (isColumn n d x) ≡ 1 = ap byte (sym b ∙ w .0 .taken) in (omega arith, omega arith, omega (arith, next, e)))
@@ -41,7 +42,7 @@ loop-again c =
 returns : tie.Need-returns Inv-loop μ-loop
 returns c =
     let l = c .before in
-    let s = l .before .before in
+    let s = l .before .before .before in
     omega (arith, columns-end (s .pre .0) (s .args .n) (s .args .d) (l .loop .i) (omega arith))
 
 pub column-count-spec : {M : Type 1} → statement M
@@ -52,8 +53,7 @@ column-count-spec =
     μ-loop
     (λ c κs. search needs)
     loop-holds
-    (λ c. omega arith)
-    (λ c. omega arith)
+    (λ c κs. search needs)
     (λ c κs. search needs)
     (λ c. omega arith)
     (λ c. omega arith)
