@@ -1,12 +1,12 @@
 -- What Convert answers and leaves, from the tests that it makes.
 --   convert-refuses   a broken check
 --   convert-fits      the points fit the buffer
+--   convert-taps      there are at most nine taps
 --   convert-asks      what the transform of the first N bytes asks
 --   convert-accepts   no check is broken
-use mathlib.Core.Path.{_≡_, refl, sym, ap, _∙_}
-use mathlib.Core.Bool.{false}
+use mathlib.Core.Path.{_≡_, sym, ap, _∙_}
 use mathlib.Core.List.{List, _++_}
-use Prim.Native.Nat.{ℕ, _≤_, _<_}
+use Prim.Native.Nat.{ℕ, _≤_}
 use native.Mathlib.Omega.{arith}
 use lib.Dec.{eqb}
 use lib.ListN.{length, take, drop}
@@ -19,35 +19,45 @@ use Rattle.cube.proofs.Taps.{taps-range}
 use Rattle.cube.proofs.Masks.{byte-small}
 use Rattle.refusal.specs.Refusal.{numberOf}
 use Rattle.refusal.specs.Outcome.{refused, accepted, left}
-use Rattle.refusal.proofs.Checks.{testAt, refusalAt, PassTo, broken-refuses, checked-accepts}
-use Rattle.polynomial.specs.Convert.{Bits, values, converted, convertChecks, convertOutcome, convertLeaves, Converts}
-use Rattle.polynomial.specs.declared.convert.Conversion.the-variants.{Refused, Converted}
+use Rattle.refusal.specs.declared.Refusal.{Refusal}
+use Rattle.refusal.specs.declared.verdict.Verdict.the-variants as verdicts
+use Rattle.refusal.specs.Verdict.{verdict}
+use Rattle.refusal.proofs.Verdicts.{passed-all, verdict-refuses, verdict-passes}
+use Rattle.polynomial.specs.Convert.{Bits, values, converted, convertChecks, convertOutcome, convertLeaves, ConvertContract}
+use Rattle.polynomial.specs.declared.convert.ConvertAnswer.the-variants.{Refused, Accepted}
 use Rattle.polynomial.proofs.Halves.{values-same}
 use Rattle.polynomial.proofs.HalvesInPlace.{bits-take}
 
 module _ (n : ℕ) (b : List ℕ) where
   -- a broken check
-  pub convert-refuses : (k : ℕ) → k < 3 → PassTo (convertChecks n b) k → testAt (convertChecks n b) k ≡ false
-      → Converts n b b (Refused (refusalAt (convertChecks n b) k))
+  pub convert-refuses : {x : Refusal} → verdict (convertChecks n b) ≡ verdicts.Refused x → ConvertContract n b b (Refused x)
   unfolding convertOutcome convertLeaves
-  convert-refuses k l h t =
-      let e : convertOutcome n b ≡ refused (numberOf (refusalAt (convertChecks n b) k)) = broken-refuses (convertChecks n b) _ k l h t in
-      record { answers = sym e; leaves = sym (ap (λ o. left o b (converted n b)) e) }
+  convert-refuses {x} e =
+      let broken : convertOutcome n b ≡ refused (numberOf x) = verdict-refuses (convertChecks n b) (accepted tt) e in
+      record { answers = sym broken; leaves = sym (ap (λ o. left o b (converted n b)) broken) }
 
-  module _ (passed : PassTo (convertChecks n b) 3) where
+  module _ (passed : verdict (convertChecks n b) ≡ verdicts.Passed) where
     -- the points fit the buffer
     pub convert-fits : size n ≤ length b
-    convert-fits = omega (arith, eqb-true (length b) 512 (passed 0 (omega arith)), pow-mono (taps-range n .0 (passed 1 (omega arith)) .1))
+    convert-fits =
+        let (long, (tapped, _)) = passed-all (convertChecks n b) passed in
+        omega (arith, eqb-true (length b) 512 long, pow-mono (taps-range n .0 tapped .1))
+
+    -- at most nine taps
+    pub convert-taps : n ≤ 9
+    convert-taps = let (_, (tapped, _)) = passed-all (convertChecks n b) passed in taps-range n .0 tapped .1
 
     -- what the transform of the first N bytes asks
     pub convert-asks : (length (take (size n) b) ≡ size n) × Bits (take (size n) b)
-    convert-asks = (length-take-le (size n) b convert-fits, bits-take (size n) b (λ k. byte-small (size n) b k (passed 2 (omega arith))))
+    convert-asks =
+        let (_, (_, (formed, _))) = passed-all (convertChecks n b) passed in
+        (length-take-le (size n) b convert-fits, bits-take (size n) b (λ k. byte-small (size n) b k formed))
 
     -- no check is broken
-    pub convert-accepts : (r : List ℕ) → r ≡ values n (member (take (size n) b)) → Converts n b (r ++ drop (size n) b) Converted
+    pub convert-accepts : (r : List ℕ) → r ≡ values n (member (take (size n) b)) → ConvertContract n b (r ++ drop (size n) b) Accepted
     unfolding convertLeaves convertOutcome converted
     convert-accepts r e =
-        let passes : convertOutcome n b ≡ accepted tt = checked-accepts (convertChecks n b) _ tt .1 (passed, refl) in
+        let passes : convertOutcome n b ≡ accepted tt = verdict-passes (convertChecks n b) (accepted tt) passed in
         let same : r ≡ values n (member b) = e ∙ values-same n _ _ (λ u l. ap (λ x. eqb x 1) (getD-take (size n) b u 0 l)) in
         record {
           answers = sym passes;

@@ -13,7 +13,7 @@ use Rattle.cube.specs.Cube.{weight}
 use Rattle.cube.specs.Mask.{member}
 use Rattle.cube.proofs.Masks.{member-points, points-inside}
 use Rattle.refusal.specs.Outcome.{accepted}
-use Rattle.refusal.proofs.Checks.{checked-accepts}
+use Rattle.refusal.proofs.Verdicts.{passed-all, accepted-passes}
 use Rattle.polynomial.specs.Polynomial.{HasDegree}
 use Rattle.polynomial.specs.Degree.{exponents, largest, degreeChecks, degreeOutcome}
 
@@ -44,12 +44,13 @@ largest-member t (y ∷ z ∷ xs) e = go (largest-member t (z ∷ xs) refl)
 pub degree-has : (n : ℕ) (b : List ℕ) (k : ℕ) → degreeOutcome n b ≡ accepted k → HasDegree n (member b) k
 unfolding degreeOutcome
 degree-has n b k e =
-    let (passed, same) = checked-accepts (degreeChecks n b) (accepted (largest weight (exponents b))) k .0 e in
+    let (passed, same) = accepted-passes (degreeChecks n b) (accepted (largest weight (exponents b))) k e in
+    let (_, (_, (formed, (some, _)))) = passed-all (degreeChecks n b) passed in
     let is : largest weight (exponents b) ≡ k = cc same in
-    let top = largest-member weight (exponents b) (not-true _ (passed 3 (omega arith))) in
+    let top = largest-member weight (exponents b) (not-true _ some) in
     record {
       top = top .0;
-      inside = points-inside n b (passed 2 (omega arith)) (top .0) (top .1);
+      inside = points-inside n b formed (top .0) (top .1);
       chosen = member-points b (top .0) .0 (top .1);
       weighs = top .2 ∙ is;
       most = λ u l m. omega (arith, is, largest-most weight u (exponents b) (member-points b u .1 m));

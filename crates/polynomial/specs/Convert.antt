@@ -1,4 +1,4 @@
--- Convert: document 01, 'Graded order and normal form'.
+-- Convert: docs/SPECIFICATION.md, 'Convert'.
 --   Bits s              each byte is 0 or 1
 --   values n p          a byte for each point of n taps: the value of the polynomial p there
 --   lowerAdded h s      the first h bytes of s, and then their sums with the next h bytes
@@ -7,22 +7,21 @@
 --   convertOutcome n b  what Convert answers, lent the bytes b
 --   convertLeaves n b   the bytes as Convert leaves them
 --   outcomeOf r         the outcome that an answer states
---   Converts ..         the contract of Convert
+--   ConvertContract ..         the contract of Convert
 use mathlib.Core.Path.{_≡_}
-use mathlib.Core.List.{List, [], _∷_, _++_, map}
+use mathlib.Core.List.{List, _++_, map}
 use Prim.Native.Nat.{ℕ, _+_, _≤_}
 use lib.Bits.{bitXor}
-use lib.Dec.{eqb}
 use lib.ListN.{length, getD, take, drop}
 use Rattle.cube.specs.NumberLists.{below}
-use Rattle.cube.specs.Cube.{size, taps}
-use Rattle.cube.specs.Mask.{wellFormed, member, byte}
+use Rattle.cube.specs.Cube.{size}
+use Rattle.cube.specs.Mask.{member, byte}
 use Rattle.refusal.specs.Refusal.{numberOf}
-use Rattle.refusal.specs.Outcome.{Outcome, refused, accepted, Check, _otherwise_, checked, left}
-use Rattle.refusal.specs.declared.Refusal.the-variants.{Length, Taps, Bytes}
+use Rattle.refusal.specs.Outcome.{Outcome, refused, accepted, Check, checked, left}
+use Rattle.filter.specs.Checks.{lengthIs, tapsOf, maskOf}
 use Rattle.polynomial.specs.Polynomial.{Polynomial, value}
-use Rattle.polynomial.specs.declared.convert.Conversion.{Conversion}
-use Rattle.polynomial.specs.declared.convert.Conversion.the-variants.{Refused, Converted}
+use Rattle.polynomial.specs.declared.convert.ConvertAnswer.{ConvertAnswer}
+use Rattle.polynomial.specs.declared.convert.ConvertAnswer.the-variants.{Refused, Accepted}
 
 -- each byte is 0 or 1
 abbrev pub Bits : List ℕ → Type 0
@@ -44,11 +43,7 @@ converted n b = values n (member b) ++ drop (size n) b
 
 -- the length, the number of taps, the 0/1/0 rule
 abbrev pub convertChecks : ℕ → List ℕ → List Check
-convertChecks n b =
-    eqb (length b) 512 otherwise Length
-    ∷ taps n otherwise Taps
-    ∷ wellFormed n b otherwise Bytes
-    ∷ []
+convertChecks n b = lengthIs (length b) 512 ++ tapsOf n ++ maskOf n b
 
 -- refused by the first broken check, or accepted
 unfoldable pub convertOutcome : ℕ → List ℕ → Outcome Unit
@@ -59,12 +54,12 @@ unfoldable pub convertLeaves : ℕ → List ℕ → List ℕ
 unfolding convertOutcome converted
 convertLeaves n b = left (convertOutcome n b) b (converted n b)
 
--- document 01's number of a refusal
-abbrev pub outcomeOf : Conversion → Outcome Unit
+-- the number of a refusal, or the values
+abbrev pub outcomeOf : ConvertAnswer → Outcome Unit
 outcomeOf (Refused r) = refused (numberOf r)
-outcomeOf Converted = accepted tt
+outcomeOf Accepted = accepted tt
 
 -- the answer, and the bytes at exit
-pub record Converts (n : ℕ) (b b′ : List ℕ) (r : Conversion) : Type 0 where
+pub record ConvertContract (n : ℕ) (b b′ : List ℕ) (r : ConvertAnswer) : Type 0 where
   pub answers : outcomeOf r ≡ convertOutcome n b
   pub leaves : b′ ≡ convertLeaves n b

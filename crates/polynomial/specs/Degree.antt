@@ -1,9 +1,11 @@
--- Degree: document 01, 'Graded order and normal form'.
+-- Degree: docs/SPECIFICATION.md, 'Degree'.
 --   exponents b        the exponents whose coefficient in b is 1, rising
 --   largest t xs       the largest t of a member of xs, 0 where there is none
 --   degreeChecks n b   the checks of Degree, in order
 --   degreeOutcome n b  what Degree answers, lent the coefficients b
 --   outcomeOf r        the outcome that an answer states
+--   DegreeContract ..  the contract of Degree
+use mathlib.Core.Path.{_≡_}
 use mathlib.Core.Bool.{not}
 use mathlib.Core.List.{List, [], _∷_, _++_}
 use Prim.Native.Nat.{ℕ, max}
@@ -15,7 +17,7 @@ use Rattle.refusal.specs.Outcome.{Outcome, refused, accepted, Check, _otherwise
 use Rattle.refusal.specs.declared.Refusal.the-variants.{ZeroPolynomial}
 use Rattle.polynomial.specs.Convert.{convertChecks}
 use Rattle.polynomial.specs.declared.degree.DegreeAnswer.{DegreeAnswer}
-use Rattle.polynomial.specs.declared.degree.DegreeAnswer.the-variants.{Refused, Degree}
+use Rattle.polynomial.specs.declared.degree.DegreeAnswer.the-variants.{Refused, Accepted}
 
 -- the exponents whose coefficient is 1
 abbrev pub exponents : List ℕ → List ℕ
@@ -36,7 +38,11 @@ unfoldable pub degreeOutcome : ℕ → List ℕ → Outcome ℕ
 unfolding largest
 degreeOutcome n b = checked (degreeChecks n b) (accepted (largest weight (exponents b)))
 
--- document 01's number of a refusal
+-- the number of a refusal, or the values
 abbrev pub outcomeOf : DegreeAnswer → Outcome ℕ
 outcomeOf (Refused r) = refused (numberOf r)
-outcomeOf (Degree d) = accepted d
+outcomeOf (Accepted d) = accepted d
+
+-- what is answered
+pub record DegreeContract (n : ℕ) (b : List ℕ) (r : DegreeAnswer) : Type 0 where
+  pub answers : outcomeOf r ≡ degreeOutcome n b

@@ -1,4 +1,4 @@
--- Polynomials in n taps: document 01, 'Words and sources'.
+-- Polynomials in n taps: docs/SPECIFICATION.md, 'Words'.
 --   Polynomial          a choice of exponents
 --   sumBelow m t        the sum modulo 2 of a test over the numbers below m
 --   value n p a         its value at the point a: the sum modulo 2 of the chosen monomials there

@@ -4,17 +4,21 @@ ghost use Prim.Native.Nat.{_+_};
 ghost use lib.ListN.{length};
 ghost use Rattle.cube.specs.Cube.{size as sizeOf};
 ghost use Rattle.cube.specs.Mask.{member};
-ghost use Rattle.polynomial.specs.Convert.{Bits, values, lowerAdded, Converts};
+ghost use Rattle.refusal.specs.Verdict.{verdict};
+ghost use Rattle.refusal.specs.declared.verdict.Verdict.the-variants.{Passed};
+ghost use Rattle.polynomial.specs.Convert.{Bits, values, lowerAdded, convertChecks, ConvertContract};
 use cube::POINTS;
-use cube::mask::well_formed;
 use cube::size;
-use cube::valid_taps;
+use filter::checks::check_length;
+use filter::checks::check_mask;
+use filter::checks::check_taps;
 use refusal::Refusal;
+use refusal::verdict::Verdict;
 
 // What Convert answers.
-pub enum Conversion {
+pub enum ConvertAnswer {
     Refused(Refusal),
-    Converted,
+    Accepted,
 }
 
 // Adds the lower half of `s`, of `h` bytes, into the upper.
@@ -45,19 +49,30 @@ fn transform(s: &mut [u8], n: usize)
 }
 
 // Converts the first N bytes of `bytes`, a table or coefficients of `n` taps, into the other.
-pub fn convert(bytes: &mut [u8], n: usize) -> Conversion
-    ensures { λ r. ⌜ Converts n (now (bytes .entry)) (now (bytes .exit)) r ⌝ }
+pub fn convert(bytes: &mut [u8], n: usize) -> ConvertAnswer
+    ensures { λ r. ⌜ ConvertContract n (now (bytes .entry)) (now (bytes .exit)) r ⌝ }
 {
-    if bytes.len() != POINTS {
-        return Conversion::Refused(Refusal::Length);
+    match convert_checks(bytes, n) {
+        Verdict::Refused(x) => ConvertAnswer::Refused(x),
+        Verdict::Passed => convert_points(bytes, n),
     }
-    if !valid_taps(n) {
-        return Conversion::Refused(Refusal::Taps);
-    }
-    if !well_formed(bytes, n) {
-        return Conversion::Refused(Refusal::Bytes);
-    }
+}
+
+// The checks: the length, the taps, the bytes.
+pub fn convert_checks(bytes: &[u8], n: usize) -> Verdict
+    ensures { λ r. ⌜ r ≡ verdict (convertChecks n (now (bytes .entry))) ⌝ }
+{
+    let v = check_length(Verdict::Passed, bytes.len(), POINTS);
+    let v = check_taps(v, n);
+    check_mask(v, bytes, n)
+}
+
+// The same of bytes that passed the checks.
+fn convert_points(bytes: &mut [u8], n: usize) -> ConvertAnswer
+    requires { ⌜ verdict (convertChecks n (now bytes)) ≡ Passed ⌝ }
+    ensures { λ r. ⌜ ConvertContract n (now (bytes .entry)) (now (bytes .exit)) r ⌝ }
+{
     let points = size(n);
     transform(&mut bytes[..points], n);
-    Conversion::Converted
+    ConvertAnswer::Accepted
 }

@@ -3,19 +3,21 @@ ghost use mathlib.Core.Path.{_≡_};
 ghost use Prim.Native.Nat.{max};
 ghost use lib.ListN.{length};
 ghost use Rattle.cube.specs.Cube.{weight as weightOf};
-ghost use Rattle.polynomial.specs.Degree.{exponents, largest, degreeOutcome, outcomeOf};
+ghost use Rattle.refusal.specs.Verdict.{verdict};
+ghost use Rattle.polynomial.specs.Degree.{exponents, largest, degreeChecks, DegreeContract};
+use crate::convert::convert_checks;
 use cube::Exponent;
 use cube::POINTS;
 use cube::mask::is_empty;
-use cube::mask::well_formed;
-use cube::valid_taps;
 use cube::weight;
 use refusal::Refusal;
+use refusal::verdict::Verdict;
+use refusal::verdict::also;
 
 // What Degree answers.
 pub enum DegreeAnswer {
     Refused(Refusal),
-    Degree(u32),
+    Accepted(u32),
 }
 
 // The larger of two numbers.
@@ -43,19 +45,18 @@ fn largest_weight(coefficients: &[u8]) -> u32
 
 // The degree of the polynomial of `n` taps with these coefficients.
 pub fn degree(coefficients: &[u8], n: usize) -> DegreeAnswer
-    ensures { λ r. ⌜ outcomeOf r ≡ degreeOutcome n (now (coefficients .entry)) ⌝ }
+    ensures { λ r. ⌜ DegreeContract n (now (coefficients .entry)) r ⌝ }
 {
-    if coefficients.len() != POINTS {
-        return DegreeAnswer::Refused(Refusal::Length);
+    match degree_checks(coefficients, n) {
+        Verdict::Refused(x) => DegreeAnswer::Refused(x),
+        Verdict::Passed => DegreeAnswer::Accepted(largest_weight(coefficients)),
     }
-    if !valid_taps(n) {
-        return DegreeAnswer::Refused(Refusal::Taps);
-    }
-    if !well_formed(coefficients, n) {
-        return DegreeAnswer::Refused(Refusal::Bytes);
-    }
-    if is_empty(coefficients) {
-        return DegreeAnswer::Refused(Refusal::ZeroPolynomial);
-    }
-    DegreeAnswer::Degree(largest_weight(coefficients))
+}
+
+// The checks of Convert, and then that some coefficient is 1.
+fn degree_checks(coefficients: &[u8], n: usize) -> Verdict
+    ensures { λ r. ⌜ r ≡ verdict (degreeChecks n (now (coefficients .entry))) ⌝ }
+{
+    let v = convert_checks(coefficients, n);
+    also(v, !is_empty(coefficients), Refusal::ZeroPolynomial)
 }

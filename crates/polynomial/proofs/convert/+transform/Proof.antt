@@ -1,4 +1,4 @@
--- The number of taps falls with each call. What the calls ask, and what is left, is said of lists in Parts.antt.
+-- The number of taps falls with each call. What the calls on the halves ask, and what is left of the whole, is said of lists in HalvesInPlace.antt.
 use mathlib.Core.Path.{sym}
 use Prim.Native.Nat.{ℕ, _<_}
 use native.Mathlib.Omega.{arith}

@@ -1,3 +1,4 @@
+-- The loop's invariant: the largest weight of all marked exponents is the larger of `most` and the largest weight of those from i on.
 use mathlib.Core.Path.{_≡_, ap}
 use mathlib.Core.List.{List}
 use mathlib.Core.Logic.{⊎-elim}
