@@ -35,17 +35,19 @@ use Rattle.filter_file.specs.Progress.{tapsOf, listAfter, outcomeOf, bes
 use Rattle.filter_file.proofs.reader.Reader as T
 use Rattle.filter_file.proofs.reader.Reader.Laws as T′
 
--- the token of the file's lifetime, alone and with that of a buffer's
+-- the token of the file's lifetime
 abbrev pub Token : {M : Type 1} (𝓤 : URA M) → Lft → Share → Item 𝓤
 Token 𝓤 κ q = ‵ (flft κ q) ⊛ ‵ ftrue
 
+-- the same, with the token of a buffer's lifetime
 abbrev pub Tokens : {M : Type 1} (𝓤 : URA M) → Lft → Share → Lft → Share → Item 𝓤
 Tokens 𝓤 κ q κ′ q′ = ‵ (flft κ q) ⊛ ‵ (flft κ′ q′) ⊛ ‵ ftrue
 
--- the machine value of a buffer, and what the buffer owns
+-- the machine value of a buffer
 abbrev pub bufferVal : RefT (List ℕ) → Val
 bufferVal y = sliceVal (y .ptr) (length (y .now))
 
+-- what a buffer owns
 abbrev pub Buffer : Lft → RefT (List ℕ) → Fml
 Buffer κ′ y = MutSlice (named 1) κ′ u8 .own y (bufferVal y ∷ [])
 

@@ -11,3 +11,4 @@ pub mod Longest
 pub mod Marked
 pub mod NumbersDrawn
 pub mod PointsDrawn
+pub mod ValidFilter

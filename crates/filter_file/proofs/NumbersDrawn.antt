@@ -7,19 +7,19 @@ use mathlib.Core.Bool.{true}
 use mathlib.Core.List.{List, []}
 use Prim.Native.Nat.{ℕ}
 use lib.ListN.{drop}
-use Rattle.cube.specs.Cube.{taps, size}
 use Rattle.refusal.specs.declared.Refusal.the-variants.{Taps}
 use Rattle.refusal.specs.Outcome.{Outcome, refused, accepted}
 use Rattle.refusal.proofs.Outcomes.{not-both, check-passed}
-use Rattle.filter_file.specs.declared.progress.Progress.{Progress}
-use Rattle.filter_file.specs.declared.read.Reading.{Reading}
-use Rattle.filter_file.specs.declared.read.Reading.the-variants.{Read, Refused}
+use Rattle.cube.specs.Cube.{taps, size}
 use Rattle.varint.specs.Drawn.{Drawn, _leaving_, draw}
 use Rattle.varint.specs.Varint.{varint}
+use Rattle.varint.proofs.Draws.{draw-accepted}
+use Rattle.filter_file.specs.declared.progress.Progress.{Progress}
+use Rattle.filter_file.specs.declared.read.ReadAnswer.{ReadAnswer}
+use Rattle.filter_file.specs.declared.read.ReadAnswer.the-variants.{Accepted, Refused}
 use Rattle.filter_file.specs.PointList.{pointList, markDrawn}
 use Rattle.filter_file.specs.Read.{outcomeOf as readingOf}
 use Rattle.filter_file.specs.Progress.{leave, outcomeOf, beside, tapsOf, listAfter, numbers, Tapped}
-use Rattle.varint.proofs.Draws.{draw-accepted}
 
 -- what follows a value may be replaced, value by value
 draw-cong : {A B : Type 0} {f g : A → List ℕ → Outcome B} (o : Outcome (Drawn A)) → ((v : A) (rest : List ℕ) → f v rest ≡ g v rest) → draw o f ≡ draw o g
@@ -38,8 +38,8 @@ after-progress : (s : List ℕ) (p : Progress) (least : ℕ) (b : List ℕ)
 unfolding listAfter
 after-progress s p least b = go (p .reading)
   where
-    go : (r : Reading) → listAfter (readingOf r) least b (drop (p .next) s) ≡ draw (leave (readingOf r) (drop (p .next) s)) (λ n rest. listAfter (accepted n) least b rest)
-    go (Read n) = refl
+    go : (r : ReadAnswer) → listAfter (readingOf r) least b (drop (p .next) s) ≡ draw (leave (readingOf r) (drop (p .next) s)) (λ n rest. listAfter (accepted n) least b rest)
+    go (Accepted n) = refl
     go (Refused k) = refl
 
 -- bytes beside drawn values stand beside each of them
@@ -91,24 +91,24 @@ pub taps-tapped : (s rest : List ℕ) (p : Progress) → outcomeOf s p ≡ tapsO
 unfolding tapsOf
 taps-tapped s rest p e = go (p .reading) e
   where
-    go : (r : Reading) → leave (readingOf r) (drop (p .next) s) ≡ tapsOf rest → Tapped r
+    go : (r : ReadAnswer) → leave (readingOf r) (drop (p .next) s) ≡ tapsOf rest → Tapped r
     go (Refused k) e = tt
-    go (Read n) e =
+    go (Accepted n) e =
         let (v, left, _, h) = draw-accepted (varint rest) _ (sym e) in
         let (tapped, same) = check-passed (taps v) Taps [] (accepted (v leaving left)) _ h in
         let n-is : v ≡ n = cc in
         subst (λ (m : ℕ). taps m ≡ true) n-is tapped
 
 -- where a list is drawn after a number of taps, n is still one
-pub list-tapped : (s b b₁ rest : List ℕ) (least : ℕ) (r : Reading) (p : Progress)
+pub list-tapped : (s b b₁ rest : List ℕ) (least : ℕ) (r : ReadAnswer) (p : Progress)
     → beside b₁ (outcomeOf s p) ≡ listAfter (readingOf r) least b rest → Tapped r → Tapped (p .reading)
 unfolding listAfter
 list-tapped s b b₁ rest least r p e t = go r (p .reading) e t
   where
-    go : (r q : Reading) → beside b₁ (leave (readingOf q) (drop (p .next) s)) ≡ listAfter (readingOf r) least b rest → Tapped r → Tapped q
+    go : (r q : ReadAnswer) → beside b₁ (leave (readingOf q) (drop (p .next) s)) ≡ listAfter (readingOf r) least b rest → Tapped r → Tapped q
     go r (Refused k) e t = tt
-    go (Refused k) (Read n) e t = absurd (not-both (sym e))
-    go (Read m) (Read n) e t =
+    go (Refused k) (Accepted n) e t = absurd (not-both (sym e))
+    go (Accepted m) (Accepted n) e t =
         let (marked, left, _, h) = draw-accepted (markDrawn b (pointList least (size m) rest)) _ (sym e) in
         let values : _≡_ {A = ℕ × List ℕ} (m, marked) (n, b₁) = cc in
         subst (λ (k : ℕ). taps k ≡ true) (ap (λ (v : ℕ × List ℕ). v .0) values) t

@@ -1,5 +1,5 @@
--- Lists of points, document 01, 'Filter file': the count, then the first point itself, then for each later point its
--- difference from the one before.
+-- Lists of points: docs/SPECIFICATION.md, 'Filter file'. The count, then the first point itself, then for each later
+-- point its difference from the one before.
 --   before p o                    a point before the points that the outcome o draws
 --   pointsFrom m k prev least s   k points below m from the bytes s: the next is prev and a difference of at least `least`
 --   pointList least m s           a list of at least `least` points below m: refused by 2, 3, 5 or 6
@@ -16,10 +16,10 @@ use Rattle.refusal.specs.declared.Refusal.the-variants.{Range, EmptySet}
 use Rattle.refusal.specs.Refusal.{numberOf}
 use Rattle.refusal.specs.Outcome.{Outcome, refused, accepted, _otherwise_, checked}
 use Rattle.cube.specs.Mask.{withOnes}
-use Rattle.filter_file.specs.declared.list.Listed.{Listed}
-use Rattle.filter_file.specs.declared.list.Listed.the-variants.{Next, Refused}
 use Rattle.varint.specs.Drawn.{Drawn, _leaving_, draw}
 use Rattle.varint.specs.Varint.{varint, encodeVarint}
+use Rattle.filter_file.specs.declared.list.Listed.{Listed}
+use Rattle.filter_file.specs.declared.list.Listed.the-variants.{Next, Refused}
 
 -- a point before those that an outcome draws
 abbrev pub before : ℕ → Outcome (Drawn (List ℕ)) → Outcome (Drawn (List ℕ))

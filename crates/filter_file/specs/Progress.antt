@@ -1,4 +1,4 @@
--- What one reader draws from a file, number by number: document 01, 'Filter file'.
+-- What one reader draws from a file, number by number: docs/SPECIFICATION.md, 'Filter file'.
 --   leave o rest            the value of the outcome o, and the bytes that remain after it
 --   outcomeOf s p           what the code's progress p says of the bytes s of a file
 --   beside b o              each value that the outcome o draws, beside the bytes b
@@ -11,14 +11,14 @@ use mathlib.Core.Bool.{true}
 use mathlib.Core.List.{List}
 use Prim.Native.Nat.{ℕ}
 use lib.ListN.{drop}
-use Rattle.cube.specs.Cube.{taps, size}
 use Rattle.refusal.specs.declared.Refusal.the-variants.{Taps}
 use Rattle.refusal.specs.Outcome.{Outcome, refused, accepted, _otherwise_, after}
-use Rattle.filter_file.specs.declared.progress.Progress.{Progress}
-use Rattle.filter_file.specs.declared.read.Reading.{Reading}
-use Rattle.filter_file.specs.declared.read.Reading.the-variants.{Read, Refused}
+use Rattle.cube.specs.Cube.{taps, size}
 use Rattle.varint.specs.Drawn.{Drawn, _leaving_, draw}
 use Rattle.varint.specs.Varint.{varint}
+use Rattle.filter_file.specs.declared.progress.Progress.{Progress}
+use Rattle.filter_file.specs.declared.read.ReadAnswer.{ReadAnswer}
+use Rattle.filter_file.specs.declared.read.ReadAnswer.the-variants.{Accepted, Refused}
 use Rattle.filter_file.specs.PointList.{pointList, markDrawn}
 use Rattle.filter_file.specs.Read.{outcomeOf as readingOf}
 
@@ -53,6 +53,6 @@ numbers b c s =
     draw (markDrawn c (pointList 0 (size n) s₂)) (λ table s₃. accepted (((n, set), table) leaving s₃))))
 
 -- n, where it is read, is a number of taps
-abbrev pub Tapped : Reading → Type 0
-Tapped (Read n) = taps n ≡ true
+abbrev pub Tapped : ReadAnswer → Type 0
+Tapped (Accepted n) = taps n ≡ true
 Tapped (Refused r) = Unit {0}

@@ -5,7 +5,7 @@ ghost use Rattle.filter_file.specs.Progress.{tapsOf, listAfter, outcomeO
 ghost use Rattle.filter_file.specs.Read.{outcomeOf as readingOf};
 use crate::list::Listed;
 use crate::list::list_at;
-use crate::read::Reading;
+use crate::read::ReadAnswer;
 use cube::valid_taps;
 use refusal::Refusal;
 use varint::Varint;
@@ -13,7 +13,7 @@ use varint::varint_at;
 
 // What a file says so far, and the place of its next number.
 pub struct Progress {
-    pub reading: Reading,
+    pub reading: ReadAnswer,
     pub next: usize,
 }
 
@@ -23,18 +23,18 @@ pub fn taps_at(file: &[u8], at: usize) -> Progress
 {
     match varint_at(file, at) {
         Varint::Refused(r) => Progress {
-            reading: Reading::Refused(r),
+            reading: ReadAnswer::Refused(r),
             next: at,
         },
         Varint::Value { value, next } => {
             if !valid_taps(value) {
                 return Progress {
-                    reading: Reading::Refused(Refusal::Taps),
+                    reading: ReadAnswer::Refused(Refusal::Taps),
                     next: at,
                 };
             }
             Progress {
-                reading: Reading::Read(value),
+                reading: ReadAnswer::Accepted(value),
                 next,
             }
         }
@@ -42,23 +42,29 @@ pub fn taps_at(file: &[u8], at: usize) -> Progress
 }
 
 // Draws a list of at least `least` points from the place `at` on, and sets each in `out`, if nothing before it is refused.
-pub fn list_after(file: &[u8], at: usize, before: Reading, least: usize, out: &mut [u8]) -> Progress
+pub fn list_after(
+    file: &[u8],
+    at: usize,
+    before: ReadAnswer,
+    least: usize,
+    out: &mut [u8],
+) -> Progress
     requires { ⌜ (length (now out) ≡ 512) × Tapped before ⌝ }
     ensures { λ r. ⌜ beside (now (out .exit)) (outcomeOf (now (file .entry)) r)
         ≡ listAfter (readingOf before) least (now (out .entry)) (drop at (now (file .entry))) ⌝ }
 {
     match before {
-        Reading::Refused(r) => Progress {
-            reading: Reading::Refused(r),
+        ReadAnswer::Refused(r) => Progress {
+            reading: ReadAnswer::Refused(r),
             next: at,
         },
-        Reading::Read(n) => match list_at(file, at, least, cube::size(n), out) {
+        ReadAnswer::Accepted(n) => match list_at(file, at, least, cube::size(n), out) {
             Listed::Refused(r) => Progress {
-                reading: Reading::Refused(r),
+                reading: ReadAnswer::Refused(r),
                 next: at,
             },
             Listed::Next(next) => Progress {
-                reading: Reading::Read(n),
+                reading: ReadAnswer::Accepted(n),
                 next,
             },
         },

@@ -12,7 +12,7 @@
 --   points-sums          the row of each point is a sum of the rows of the kept points
 --   keeps-rank           the rank is the number of kept rows
 --   additions-bound      of m points of which r are kept: twice the additions and r * (r + 1) are at most twice m * r
---   additions-most       the same in the words of document 01: at most m * r - r * (r + 1) / 2 additions are made
+--   additions-most       the same with a division: at most m * r - r * (r + 1) / 2 additions are made
 --   equal-kept           some of the points keep as many rows as all just if each point's row is a sum of rows of those
 --   point-kept           a point is kept exactly when its row is no sum of the rows of the points before it
 use mathlib.Core.Path.{_≡_, refl, sym, ap, _∙_, subst}
@@ -121,7 +121,7 @@ module _ (row : ℕ → Row) (ps : List ℕ) where
       2 * e .additions + r * (r + 1) ≤ 2 * (length ps * r)
   additions-bound = taken row ps .cost
 
-  -- the same in the words of document 01
+  -- the same with a division, as the specification has it
   pub additions-most : let e : Elimination = eliminate row ps in let r : ℕ = length (e .kept) in
       e .additions ≤ length ps * r - r * (r + 1) / 2
   additions-most = omega (arith, additions-bound)

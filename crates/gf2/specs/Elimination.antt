@@ -1,4 +1,5 @@
--- The elimination of document 01, 'Rank': points are taken in order, and the row of each is reduced by the rows kept so far.
+-- The elimination of docs/SPECIFICATION.md, 'Elimination': points are taken in order, and the row of each is reduced by
+-- the rows kept so far.
 --   pivot v               the first column where v has a one
 --   isZero v              whether v is zero
 --   count c               how many members a choice chooses

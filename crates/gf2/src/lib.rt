@@ -1,5 +1,5 @@
-// Linear algebra over the field of two elements, on rows packed into a lent workspace: document 01, 'Rank'. It knows
-// nothing of filters: the rows are any rows.
+// Linear algebra over the field of two elements, on rows packed into a lent workspace. It knows nothing of filters: the
+// rows are any rows. The elimination is that of docs/SPECIFICATION.md, 'Elimination'.
 pub mod packed; // packed.rt: the rows of the workspace, one row at a time
 pub mod basis; // basis.rt: the kept rows, a basis of the span of the rows taken
 pub mod solve; // solve.rt: back substitution, a row with given parities against the kept rows

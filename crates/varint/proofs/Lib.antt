@@ -1,4 +1,4 @@
--- Laws of house numbers, and of what is drawn from bytes.
+-- Laws of varints, and of what is drawn from bytes.
 pub mod Continued
 pub mod Draws
 pub mod NumberFaults

@@ -1,4 +1,5 @@
--- House numbers, document 01, 'Filter file': LEB128, one or two groups of seven bits, the lowest first, in the shortest form.
+-- Varints, the house numbers of docs/SPECIFICATION.md, 'Terms' and 'Filter file': LEB128, one or two groups of
+-- seven bits, the lowest first, in the shortest form.
 --   Bytes s           each number of the list s is a byte
 --   secondGroup x s   the number whose first byte is x, of two groups: its second byte is the first of the bytes s
 --   groups last x s   the number whose first byte is x; `last` says whether that is its only group

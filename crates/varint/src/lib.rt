@@ -1,4 +1,5 @@
-// The house numbers of document 01: varints (LEB128) of one or two groups of seven bits, in the shortest form.
+// Varints (LEB128) of one or two groups of seven bits, in the shortest form. The contract of the work calls them house
+// numbers: docs/SPECIFICATION.md, 'Terms' and 'Filter file'.
 ghost use mathlib.Core.Path.{_≡_};
 ghost use Prim.Native.Nat.{_<_};
 ghost use lib.ListN.{drop};

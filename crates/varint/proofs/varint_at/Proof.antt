@@ -1,3 +1,4 @@
+-- The definition is rewritten at the first byte, then at both (first-byte, both-bytes); each return is the branch that the tests before it pick.
 use borrow.Author.Needs.{needs}
 use borrow.Author.Tests.{lt-ltb, le-ltb, le-leb, lt-leb}
 use mathlib.Core.Path.{_≡_, sym, _∙_}

@@ -1,10 +1,11 @@
+-- The definition of the list is rewritten as far as the code has come (asked, known): by the varint drawn, then its value; each test picks a branch.
 use borrow.Author.Needs.{needs}
-use borrow.Author.Tests.{le-leb, lt-leb}
 use mathlib.Core.Path.{_≡_, sym, _∙_}
 use mathlib.Core.List.{[], _∷_}
 use native.Mathlib.Omega.{arith}
 use lib.Dec.{leb}
 use lib.ListN.{drop}
+use borrow.Author.Tests.{le-leb, lt-leb}
 use Rattle.refusal.specs.declared.Refusal.the-variants.{Range, EmptySet}
 use Rattle.refusal.specs.Outcome.{_otherwise_, checked}
 use Rattle.varint.specs.Drawn.{draw}

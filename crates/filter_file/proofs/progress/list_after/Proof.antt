@@ -1,14 +1,15 @@
+-- An n that was accepted is a number of taps, so the size passed is N and listAfter is what list_at draws, beside n; after a refusal nothing is drawn.
 use borrow.Author.Needs.{needs}
 use mathlib.Core.Path.{_≡_, sym, ap, _∙_}
 use mathlib.Core.List.{List}
 use Prim.Native.Nat.{ℕ}
 use lib.ListN.{drop}
+use Rattle.refusal.specs.Outcome.{Outcome, accepted}
 use Rattle.cube.specs.Cube.{size}
 use Rattle.cube.proofs.Taps.{taps-range}
-use Rattle.refusal.specs.Outcome.{Outcome, accepted}
-use Rattle.filter_file.specs.declared.list.Listed.{Listed}
-use Rattle.filter_file.specs.declared.read.Reading.{Reading}
 use Rattle.varint.specs.Drawn.{Drawn, _leaving_, draw}
+use Rattle.filter_file.specs.declared.list.Listed.{Listed}
+use Rattle.filter_file.specs.declared.read.ReadAnswer.{ReadAnswer}
 use Rattle.filter_file.specs.PointList.{pointList, markDrawn, outcomeOf}
 use Rattle.filter_file.specs.Read.{outcomeOf as readingOf}
 use Rattle.filter_file.specs.Progress.{listAfter}
@@ -40,7 +41,7 @@ known c e =
     let left = c .list-at .last .1 .1 .1 .1 .0 in
     let drawn : outcomeOf (a .file .now) left (c .list-at .result) ≡ markDrawn (a .out .now) (pointList (a .least) (size (n .0 .0)) s) =
     rw (← size-is c) (c .list-at .ensures) in
-    let read = ap (λ (r : Reading). listAfter (readingOf r) (a .least) (a .out .now) s) (n .1) in
+    let read = ap (λ (r : ReadAnswer). listAfter (readingOf r) (a .least) (a .out .now) s) (n .1) in
     read ∙ ap (λ (o : Outcome (Drawn (List ℕ))). draw o (λ marked rest. accepted ((n .0 .0, marked) leaving rest))) (sym drawn ∙ ap (outcomeOf (a .file .now) left) e)
 
 returns : tie.Need-returns

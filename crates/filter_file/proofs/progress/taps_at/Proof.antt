@@ -1,10 +1,10 @@
 use borrow.Author.Needs.{needs}
-use borrow.Author.Tests.{not-true, not-false}
 use mathlib.Core.Path.{_≡_, sym, _∙_}
 use lib.ListN.{drop}
-use Rattle.cube.specs.Cube.{taps}
+use borrow.Author.Tests.{not-true, not-false}
 use Rattle.refusal.specs.declared.Refusal.the-variants.{Taps}
 use Rattle.refusal.specs.Outcome.{accepted, _otherwise_, after}
+use Rattle.cube.specs.Cube.{taps}
 use Rattle.varint.specs.Drawn.{_leaving_, draw}
 use Rattle.varint.specs.Varint.{outcomeOf}
 use Rattle.filter_file.specs.Progress.{tapsOf}

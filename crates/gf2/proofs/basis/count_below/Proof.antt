@@ -1,3 +1,4 @@
+-- The loop's invariant: count is how many of the first j pivots are below `columns`; count-more says what one pivot more adds.
 use mathlib.Core.Path.{_≡_, ap, _∙_}
 use mathlib.Core.Logic.{⊎-elim}
 use mathlib.Core.List.{List}

@@ -1,3 +1,4 @@
+-- The loop's invariant: the row is reduced by the first j rows, with `count` additions; these rows are as at entry (other-row), reduces-next is a turn.
 use mathlib.Core.Path.{_≡_, sym, ap, _∙_, subst}
 use mathlib.Core.Bool.{true, false}
 use mathlib.Core.Logic.{⊎-elim}

@@ -1,3 +1,4 @@
+-- The loop's invariant: the rows are those of reducedBoth by the first i rows; both-next is a turn, with both additions or with neither.
 use mathlib.Core.Path.{_≡_, refl, sym, ap, _∙_, subst}
 use mathlib.Core.Bool.{Bool, true, false}
 use mathlib.Core.Logic.{⊎-elim}

@@ -1,3 +1,4 @@
+-- The loop's invariant: sum is that of the first i numbers (sum-more adds one), and at most i * 262144, so no addition overflows.
 use mathlib.Core.Path.{_≡_, ap, _∙_}
 use Prim.Native.Nat.{_*_, _-_, _≤_}
 use native.Mathlib.Omega.{arith}

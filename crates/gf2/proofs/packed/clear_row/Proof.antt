@@ -1,3 +1,4 @@
+-- The loop's invariant: the first k numbers of the row are zero, all else is unchanged; eight such numbers hold the row of zeros (unpack-zero).
 use mathlib.Core.Path.{_≡_, refl, sym, ap, _∙_}
 use Prim.Native.Nat.{ℕ, _-_, _*_, _<_, _≤_}
 use native.Mathlib.Omega.{arith}

@@ -1,3 +1,4 @@
+-- The loop's invariant: the first k numbers of row `to` are the bitwise and of rows p and q as at entry, all else is unchanged (join-turn, join-done).
 use mathlib.Core.Path.{_≡_}
 use Prim.Native.Nat.{_-_, _*_, _≤_}
 use native.Mathlib.Omega.{arith}

@@ -1,3 +1,4 @@
+-- The loop's invariant: the first k numbers of row `to` are those of row `from` at entry with zeros from `columns` on, all else is unchanged.
 use borrow.Author.Needs.{needs}
 use mathlib.Core.Path.{_≡_, sym, ap, _∙_}
 use mathlib.Core.List.{List}

@@ -1,3 +1,4 @@
+-- The loop's invariant: the pivot of the row is 64 * k plus that of what is left of the row from number k on, as the numbers passed are zero.
 use mathlib.Core.Path.{_≡_, sym, ap, ap₂, _∙_}
 use mathlib.Core.List.{List, _++_}
 use Prim.Native.Nat.{ℕ, suc, _+_, _-_, _*_, _^_, _<_, _≤_}

@@ -1,3 +1,4 @@
+-- The loop's invariant: the parity of the whole rows is that of count, xor that of the rows from number k on; dot-words is what a number adds.
 use mathlib.Core.Path.{_≡_, sym, ap, ap₂, _∙_}
 use mathlib.Core.Bool.{xor}
 use mathlib.Core.List.{List, _∷_}

@@ -1,3 +1,4 @@
+-- The loop's invariant: x has the entries of the solution for the kept rows from row j on; solve-last-next puts one row more in front.
 use mathlib.Core.Path.{_≡_, refl, sym, ap, ap₂, _∙_, subst}
 use mathlib.Core.Bool.{Bool, true, false}
 use mathlib.Core.List.{List, [], _∷_}

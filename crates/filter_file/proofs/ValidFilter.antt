@@ -1,0 +1,43 @@
+-- What obeys the rules of a filter file is a filter.
+--   size-small     N is at most 512
+--   valid-filter   the masks of its lists are a filter
+--   valid-some     and the set has a point
+use mathlib.Core.Path.{_≡_, refl, ap, _∙_}
+use mathlib.Core.Bool.{false}
+use mathlib.Core.List.{List, [], _∷_}
+use Prim.Native.Nat.{ℕ, _≤_}
+use native.Mathlib.Omega.{arith}
+use lib.ListN.{length}
+use lib.Pow.{pow-mono}
+use Rattle.cube.specs.NumberLists.{isEmpty, lists}
+use Rattle.cube.specs.Cube.{size}
+use Rattle.cube.specs.Mask.{points, mask}
+use Rattle.cube.proofs.Taps.{taps-range}
+use Rattle.cube.proofs.MaskOf.{length-mask}
+use Rattle.filter.specs.Filter.{Filter}
+use Rattle.filter_file.specs.File.{Contents, Valid}
+use Rattle.filter_file.proofs.ListMasks.{points-listed, listed-formed}
+
+-- N is at most 512
+pub size-small : {c : Contents} → Valid c → size (c .n) ≤ 512
+size-small {c} v = omega (arith, pow-mono (taps-range (c .n) .0 (v .tapped) .1))
+
+-- the masks of the lists are a filter
+pub valid-filter : {c : Contents} → Valid c → Filter (c .n) (mask (lists (c .set))) (mask (lists (c .table)))
+valid-filter {c} v = record {
+  set-long = length-mask (lists (c .set));
+  table-long = length-mask (lists (c .table));
+  tapped = v .tapped;
+  set-formed = listed-formed (c .n) (c .set) (v .set);
+  table-formed = listed-formed (c .n) (c .table) (v .table);
+}
+
+-- a list that has a member is not empty
+some-listed : (ps : List ℕ) → 1 ≤ length ps → isEmpty ps ≡ false
+unfolding isEmpty
+some-listed [] l = absurd (omega arith)
+some-listed (p ∷ ps) l = refl
+
+-- the set has a point
+pub valid-some : {c : Contents} → Valid c → isEmpty (points (mask (lists (c .set)))) ≡ false
+valid-some {c} v = ap isEmpty (points-listed (size (c .n)) (c .set) (size-small v) (v .set)) ∙ some-listed (c .set) (v .some)

@@ -1,0 +1,14 @@
+use borrow.Author.Needs.{needs}
+use Rattle.filter_file.proofs.read.read_checks.Statement.{statement}
+use Rattle.filter_file.proofs.read.read_checks.Tie as tie
+
+returns : tie.Need-returns
+returns c = cc
+
+pub read-checks-spec : {M : Type 1} → statement M
+read-checks-spec =
+    tie.close
+    (tie.spec
+    (λ c κs. search needs)
+    (λ c κs. search needs)
+    returns)
