@@ -8,6 +8,7 @@ use Prim.Native.Nat.{ℕ, _+_, _*_, _/_, _%_, _^_, _<_}
 use native.Mathlib.Omega.{arith}
 use lib.ListN.{length, getD, take, drop}
 use lib.Seq.{drop-nil}
+use Rattle.cube.specs.Mask.{points}
 use Rattle.gf2.specs.Packed.{unpacked, rowOf, number}
 use Rattle.gf2.proofs.Packing.{row-word}
 use Rattle.immunity.specs.Certificate.{rowIf, numberAt}
@@ -16,7 +17,7 @@ use Rattle.certify.specs.Sums.{outsideRow}
 
 module _ (s b ws : List ℕ) (i : ℕ) (l : length ws ≡ 8192) (h : i < 4096) where
   -- a number of the row of a point in the set and outside the part
-  pub outside-word : isOutside s b (i / 8) ≡ true → getD ws (4096 + i) 0 < 2 ^ 64 → getD ws (4096 + i) 0 ≡ numberAt (outsideRow s b (unpacked ws)) i
+  pub outside-word : isOutside (points s) (points b) (i / 8) ≡ true → getD ws (4096 + i) 0 < 2 ^ 64 → getD ws (4096 + i) 0 ≡ numberAt (outsideRow s b (unpacked ws)) i
   unfolding outsideRow rowIf
   outside-word e small =
       let at : (512 + i / 8) * 8 + i % 8 ≡ 4096 + i = omega arith in
@@ -27,6 +28,6 @@ module _ (s b ws : List ℕ) (i : ℕ) (l : length ws ≡ 8192) (h : i < 4096) w
       ∙ ap (λ k. getD ws k 0) at))
 
   -- a number of any other row
-  pub other-word : isOutside s b (i / 8) ≡ false → 0 ≡ numberAt (outsideRow s b (unpacked ws)) i
+  pub other-word : isOutside (points s) (points b) (i / 8) ≡ false → 0 ≡ numberAt (outsideRow s b (unpacked ws)) i
   unfolding outsideRow rowIf number
   other-word e = rw (e, drop-nil)

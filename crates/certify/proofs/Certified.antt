@@ -1,21 +1,19 @@
 -- What Certify leaves in the workspace is the certificate of the definition.
---   lists-marked          a number is listed among the points of a mask just if the mask marks it
 --   combined-count        the part's kept rows are as many as its rank
 --   certified-row         the sum for a point outside the part is that of the definition, continued by zeros
 --   written-certificate   so the numbers written are the certificate
 use mathlib.Core.Path.{_≡_, refl, sym, ap, ap₂, _∙_}
-use mathlib.Core.Bool.{Bool, true, false, not, _&&_, false≢true}
+use mathlib.Core.Bool.{Bool, true, false}
 use mathlib.Core.List.{List, [], map, List·Memᴰ}
 use Prim.Native.Nat.{ℕ, _+_, _*_, _/_, _%_, _≤_, _<_}
 use native.Mathlib.Omega.{arith}
 use lib.ListN.{length, take, drop, length-map}
 use lib.Seq.{length-take-le}
-use Rattle.cube.specs.NumberLists.{below, lists, Inside}
+use Rattle.cube.specs.NumberLists.{below, Inside}
 use Rattle.cube.specs.Cube.{size}
-use Rattle.cube.specs.Mask.{member, points}
+use Rattle.cube.specs.Mask.{points}
 use Rattle.order.specs.Order.{Graded, columns}
-use Rattle.cube.proofs.Listed.{and-both, lists-member, not-listed}
-use Rattle.cube.proofs.Masks.{member-from, member-points}
+use Rattle.cube.proofs.Masks.{member-from}
 use Rattle.gf2.specs.Vector.{Row, add, total, chosen}
 use Rattle.gf2.specs.Elimination.{Reduced, reduce, Elimination}
 use Rattle.gf2.specs.Packed.{rowOf, zeroRow, cut, padded, number}
@@ -30,15 +28,7 @@ use Rattle.immunity.specs.Certificate.{sumOf, rowIf, sumIf, numberAt, certifica
 use Rattle.matrix.specs.Combination.{Combines}
 use Rattle.filter.specs.Outside.{isOutside}
 use Rattle.certify.specs.Sums.{sumAt, Sums, outsideRow, written}
-use Rattle.filter.proofs.Outside.{outside-part}
-
--- a number is listed among the points of a mask just if the mask marks it
-pub lists-marked : (b : List ℕ) (a : ℕ) → lists (points b) a ≡ member b a
-lists-marked b a = go (member b a) refl
-  where
-    go : (z : Bool) → member b a ≡ z → lists (points b) a ≡ z
-    go true e = lists-member (points b) a .1 (member-points b a .1 e)
-    go false e = not-listed (points b) a (λ m. false≢true (sym e ∙ member-points b a .0 m))
+use Rattle.filter.proofs.Outside.{outside-says}
 
 module _ {o : List ℕ} (g : Graded o) (n d : ℕ) (most : n ≤ 9) (low : d ≤ n) (t : List Row) (there : RowsFrom (exponents o n) n t 0) where
   module _ (t′ : List Row) (qs : List ℕ) (k : ℕ) (ps : List ℕ) (inside : Inside (size n) qs) (h : Combines t t′ (length (columns o n d)) qs k ps) where
@@ -73,18 +63,17 @@ module _ {o : List ℕ} (g : Graded o) (n d : ℕ) (most : n ≤ 9) (low : d ≤
   written-certificate s f b side t₂ t₃ k ps parts inside-set inside h sums =
       map-each (numberAt (outsideRow s b t₃)) (numberAt (sumIf o n d (points s) (part side s f))) (below 4096)
       (member-each (λ i. numberAt (outsideRow s b t₃) i ≡ numberAt (sumIf o n d (points s) (part side s f)) i) (below 4096)
-      (λ i m. at i (omega (arith, member-from 0 4096 i .0 m .1)) (isOutside s b (i / 8)) refl))
+      (λ i m. at i (omega (arith, member-from 0 4096 i .0 m .1)) (isOutside (points s) (points b) (i / 8)) refl))
     where
-      listed : (a : ℕ) → (lists (points s) a && not (lists (part side s f) a)) ≡ isOutside s b a
-      listed a = ap₂ (λ x y. x && not y) (lists-marked s a) (ap (λ qs. lists qs a) (sym parts) ∙ lists-marked b a)
+      listed : (a : ℕ) → isOutside (points s) (part side s f) a ≡ isOutside (points s) (points b) a
+      listed a = ap (λ qs. isOutside (points s) qs a) (sym parts)
 
-      row-there : (a : ℕ) → a < 512 → isOutside s b a ≡ true → rowOf t₃ (512 + a) ≡ padded 512 (sumOf o n d (part side s f) a)
+      row-there : (a : ℕ) → a < 512 → isOutside (points s) (points b) a ≡ true → rowOf t₃ (512 + a) ≡ padded 512 (sumOf o n d (part side s f) a)
       row-there a l e =
-          let point : List·Memᴰ a (points s) = member-points s a .1 (and-both (member s a) (not (member b a)) e .0) in
-          let outside : ¬ List·Memᴰ a (points b) = λ m. false≢true (sym (outside-part s b a e) ∙ member-points b a .0 m) in
-          sums .sums a l e ∙ certified-row t₂ (points b) k ps inside h a (inside-set a point) outside ∙ ap (λ qs. padded 512 (sumOf o n d qs a)) parts
+          let (point, out) = outside-says (points s) (points b) a .0 e in
+          sums .sums a l e ∙ certified-row t₂ (points b) k ps inside h a (inside-set a point) out ∙ ap (λ qs. padded 512 (sumOf o n d qs a)) parts
 
-      at : (i : ℕ) → i < 4096 → (z : Bool) → isOutside s b (i / 8) ≡ z → numberAt (outsideRow s b t₃) i ≡ numberAt (sumIf o n d (points s) (part side s f)) i
+      at : (i : ℕ) → i < 4096 → (z : Bool) → isOutside (points s) (points b) (i / 8) ≡ z → numberAt (outsideRow s b t₃) i ≡ numberAt (sumIf o n d (points s) (part side s f)) i
       at i l true e =
           rw (listed (i / 8), e)
           (ap (λ v. number (take 64 (drop (64 * (i % 8)) v))) (row-there (i / 8) (omega arith) e)

@@ -14,6 +14,7 @@ use Rattle.gf2.specs.Elimination.{Reduced, reduce}
 use Rattle.gf2.specs.Packed.{rowOf, cut, zeroRow, Places}
 use Rattle.matrix.specs.Workspace.{stored}
 use Rattle.matrix.specs.Combination.{followed}
+use Rattle.cube.specs.Mask.{points}
 use Rattle.filter.specs.Outside.{isOutside}
 use Rattle.certify.specs.Sums.{sumAt, Sums}
 use Rattle.matrix.proofs.Following.{followed-sum, followed-other, followed-places, followed-front}
@@ -25,7 +26,7 @@ module _ (t : List Row) (c k : ℕ) (ps s b : List ℕ) where
 
   module _ (t′ : List Row) (a : ℕ) (h : Sums t t′ c k ps s b a) where
     -- the next point is not in the set, or in the part
-    pub sums-no : isOutside s b a ≡ false → Sums t t′ c k ps s b (a + 1)
+    pub sums-no : isOutside (points s) (points b) a ≡ false → Sums t t′ c k ps s b (a + 1)
     sums-no e = record {
       kept = h .kept;
       combinations = h .combinations;
@@ -33,10 +34,10 @@ module _ (t : List Row) (c k : ℕ) (ps s b : List ℕ) where
       sums = λ j l o. h .sums j (earlier j l o) o;
     }
       where
-        earlier : (j : ℕ) → j < a + 1 → isOutside s b j ≡ true → j < a
+        earlier : (j : ℕ) → j < a + 1 → isOutside (points s) (points b) j ≡ true → j < a
         earlier j l o = elim (decLt j a) [
           | yes g ↦ g
-          | no g ↦ let i : j ≡ a = omega arith in absurd (false≢true (sym e ∙ ap (isOutside s b) (sym i) ∙ o))
+          | no g ↦ let i : j ≡ a = omega arith in absurd (false≢true (sym e ∙ ap (isOutside (points s) (points b)) (sym i) ∙ o))
         ]
 
     -- it is in the set and outside the part

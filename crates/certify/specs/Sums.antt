@@ -9,6 +9,7 @@ use mathlib.Core.List.{List, map}
 use Prim.Native.Nat.{ℕ, _+_, _≤_, _<_}
 use lib.ListN.{set, take}
 use Rattle.cube.specs.NumberLists.{below}
+use Rattle.cube.specs.Mask.{points}
 use Rattle.gf2.specs.Vector.{Row, add, total, chosen}
 use Rattle.gf2.specs.Elimination.{reduce}
 use Rattle.gf2.specs.Packed.{rowOf, zeroRow}
@@ -25,12 +26,12 @@ pub record Sums (t t′ : List Row) (c k : ℕ) (ps s b : List ℕ) (a : ℕ) : 
   pub kept : take k t′ ≡ take k t
   pub combinations : map (rowOf t′) (take k ps) ≡ map (rowOf t) (take k ps)
   pub later : (j : ℕ) → a ≤ j → rowOf t′ (512 + j) ≡ rowOf t (512 + j)
-  pub sums : (j : ℕ) → j < a → isOutside s b j ≡ true → rowOf t′ (512 + j) ≡ sumAt t c k ps j
+  pub sums : (j : ℕ) → j < a → isOutside (points s) (points b) j ≡ true → rowOf t′ (512 + j) ≡ sumAt t c k ps j
 
 -- the row in the place of a point that is in the set and outside the part, else none
 unfoldable pub outsideRow : List ℕ → List ℕ → List Row → ℕ → Row
 unfolding rowIf
-outsideRow s b t a = rowIf (isOutside s b a) (rowOf t (512 + a))
+outsideRow s b t a = rowIf (isOutside (points s) (points b) a) (rowOf t (512 + a))
 
 -- the numbers of these rows
 abbrev pub written : List ℕ → List ℕ → List Row → List ℕ

@@ -1,16 +1,17 @@
 -- Certify's certificate.
---   certificate-is       where the ranks are equal, Certify writes the certificate of document 01
+--   certificate-is       where the ranks are equal, what Certify writes is the certificate, `IsCertificate`
 --   is-certifies         which names points of the part whose rows sum to the row, and nothing else
---   certificate-unique   at most one certificate is that of document 01
+--   certificate-unique   there is at most one
 use mathlib.Core.Path.{_≡_, refl, sym, ap, _∙_}
-use mathlib.Core.Bool.{Bool, true, false, not, _&&_, false≢true}
+use mathlib.Core.Bool.{Bool, true, false, false≢true}
 use mathlib.Core.List.{List, [], List·Memᴰ}
 use Prim.Native.Nat.{ℕ, _≤_, _<_}
 use native.Mathlib.Omega.{arith}
 use lib.ListN.{length-map}
-use Rattle.cube.specs.NumberLists.{below, lists, Inside}
+use Rattle.cube.specs.NumberLists.{below, Inside}
 use Rattle.cube.specs.Mask.{points}
-use Rattle.cube.proofs.Listed.{lists-member, not-listed}
+use Rattle.filter.specs.Outside.{Outside, isOutside}
+use Rattle.filter.proofs.Outside.{outside-says}
 use Rattle.cube.proofs.Masks.{length-from}
 use Rattle.gf2.specs.Vector.{entry, Same, SumOf}
 use Rattle.gf2.specs.Points.{Rising, Expresses}
@@ -37,19 +38,18 @@ sum-expressed o n d ps r a s = expressed (row o n d) ps r (row o n d a) (is-zero
 
 module _ (o : List ℕ) (n d : ℕ) (ss ps : List ℕ) (a : ℕ) where
   -- the row of a point of the set outside the part is its sum
-  sum-here : List·Memᴰ a ss → ¬ List·Memᴰ a ps → sumIf o n d ss ps a ≡ sumOf o n d ps a
+  sum-here : Outside ss ps a → sumIf o n d ss ps a ≡ sumOf o n d ps a
   unfolding sumIf rowIf
-  sum-here m outside = rw (lists-member ss a .1 m, not-listed ps a outside)
+  sum-here out = rw (outside-says ss ps a .1 out)
 
   -- that of any other point is empty
-  sum-nowhere : ¬ (List·Memᴰ a ss × (¬ List·Memᴰ a ps)) → sumIf o n d ss ps a ≡ []
+  sum-nowhere : ¬ Outside ss ps a → sumIf o n d ss ps a ≡ []
   unfolding sumIf rowIf
-  sum-nowhere h = go (lists ss a) refl (lists ps a) refl
+  sum-nowhere h = go (isOutside ss ps a) refl
     where
-      go : (b : Bool) → lists ss a ≡ b → (c : Bool) → lists ps a ≡ c → rowIf (b && not c) (sumOf o n d ps a) ≡ []
-      go false e c q = refl
-      go true e true q = refl
-      go true e false q = absurd (h (lists-member ss a .0 e, λ m. false≢true (sym q ∙ lists-member ps a .1 m)))
+      go : (b : Bool) → isOutside ss ps a ≡ b → rowIf b (sumOf o n d ps a) ≡ []
+      go false e = refl
+      go true e = absurd (h (outside-says ss ps a .0 e))
 
 module _ (o : List ℕ) (n d : ℕ) (s f : List ℕ) (side : ℕ) (inside : Inside 512 (points s)) (equal : EqualRanks o n s f side d) where
   -- the part
@@ -64,10 +64,10 @@ module _ (o : List ℕ) (n d : ℕ) (s f : List ℕ) (side : ℕ) (inside : Insi
   abbrev written : List ℕ
   written = certificate o n s f side d
 
-  module _ (a : ℕ) (m : List·Memᴰ a (points s)) (outside : ¬ List·Memᴰ a ps) where
+  module _ (a : ℕ) (out : Outside (points s) ps a) where
     -- the row of the point is a sum of rows of the part
     sum : SumOf (rows o n d ps) (row o n d a)
-    sum = each-member (λ b. SumOf (rows o n d ps) (row o n d b)) (equal-sums o n d (points s) ps (part-among side s f) .0 equal) m
+    sum = each-member (λ b. SumOf (rows o n d ps) (row o n d b)) (equal-sums o n d (points s) ps (part-among side s f) .0 equal) (out .0)
 
     -- so its sum is of kept points
     expresses : Expresses (row o n d) kept (sumOf o n d ps a) (row o n d a)
@@ -83,14 +83,14 @@ module _ (o : List ℕ) (n d : ℕ) (s f : List ℕ) (side : ℕ) (inside : Insi
     -- it is named
     same : Same (named written a) (sumOf o n d ps a)
     same q =
-        let here : sumIf o n d (points s) ps a ≡ sumOf o n d ps a = sum-here o n d (points s) ps a m outside in
-        named-row o n s f side d a (inside a m) (λ r l. ap (λ v. entry v r) here ∙ near r l) q ∙ ap (λ v. entry v q) here
+        let here : sumIf o n d (points s) ps a ≡ sumOf o n d ps a = sum-here o n d (points s) ps a out in
+        named-row o n s f side d a (inside a (out .0)) (λ r l. ap (λ v. entry v r) here ∙ near r l) q ∙ ap (λ v. entry v q) here
 
     -- so kept points are named whose rows sum to its row
     names-kept : Expresses (row o n d) kept (named written a) (row o n d a)
     names-kept = expresses-alike (row o n d) (λ q. sym (same q)) expresses
 
-  -- where the ranks are equal, Certify writes the certificate of document 01
+  -- where the ranks are equal, what Certify writes is the certificate
   pub certificate-is : IsCertificate o n d (points s) ps written
   unfolding certificate
   certificate-is = record {
@@ -101,28 +101,23 @@ module _ (o : List ℕ) (n d : ℕ) (s f : List ℕ) (side : ℕ) (inside : Insi
         named-row o n s f side d a l (λ r i. ap (λ v. entry v r) none) q ∙ ap (λ v. entry v q) none;
   }
 
--- the certificate of document 01 certifies
+-- the certificate certifies
 pub is-certifies : {o : List ℕ} {n d : ℕ} {ss ps c : List ℕ} → Rising ps → IsCertificate o n d ss ps c → Certifies o n d ss ps c
 unfolding eliminated
 is-certifies {o} {n} {d} {ps = ps} r x = record {
   long = x .long;
-  sums = λ a m outside. expresses-kept (row o n d) ps r (x .sums a m outside);
+  sums = λ a out. expresses-kept (row o n d) ps r (x .sums a out);
   others = x .others;
 }
 
--- at most one certificate is that of document 01
+-- there is at most one certificate
 pub certificate-unique : {o : List ℕ} {n d : ℕ} {ss ps b c : List ℕ} → IsCertificate o n d ss ps b → IsCertificate o n d ss ps c
     → (a : ℕ) → a < 512 → Same (named b a) (named c a)
 unfolding eliminated
-certificate-unique {o} {n} {d} {ss} {ps} {b} {c} x y a l = go (lists ss a) refl (lists ps a) refl
+certificate-unique {o} {n} {d} {ss} {ps} {b} {c} x y a l = go (isOutside ss ps a) refl
   where
-    nothing : ¬ (List·Memᴰ a ss × (¬ List·Memᴰ a ps)) → Same (named b a) (named c a)
-    nothing h q = x .others a l h q ∙ sym (y .others a l h q)
-
-    go : (i : Bool) → lists ss a ≡ i → (j : Bool) → lists ps a ≡ j → Same (named b a) (named c a)
-    go false e j h = nothing (λ m. false≢true (sym e ∙ lists-member ss a .1 (m .0)))
-    go true e true h = nothing (λ m. m .1 (lists-member ps a .0 h))
-    go true e false h =
-        let m : List·Memᴰ a ss = lists-member ss a .0 e in
-        let outside : ¬ List·Memᴰ a ps = λ i. false≢true (sym h ∙ lists-member ps a .1 i) in
-        expresses-unique (row o n d) (points-independent (row o n d) ps) (x .sums a m outside) (y .sums a m outside)
+    go : (i : Bool) → isOutside ss ps a ≡ i → Same (named b a) (named c a)
+    go false e = λ q. let out : ¬ Outside ss ps a = λ h. false≢true (sym e ∙ outside-says ss ps a .1 h) in x .others a l out q ∙ sym (y .others a l out q)
+    go true e =
+        let out : Outside ss ps a = outside-says ss ps a .0 e in
+        expresses-unique (row o n d) (points-independent (row o n d) ps) (x .sums a out) (y .sums a out)

@@ -30,7 +30,7 @@ module _ {o : List ℕ} (g : Graded o) {n : ℕ} (small : n ≤ 9) (d : ℕ) whe
       → Annihilator n (choice o n d x) ps ss
   separates-annihilates ss ps a m x (even, odd) = record {
     zero = each-map (λ b e. choice-value g small d x b ∙ e) ps (each-of-map (λ v. dot x v ≡ false) (row o n d) ps .0 even);
-    place = a;
+    point = a;
     inside = m;
     one = choice-value g small d x a ∙ odd;
   }
@@ -45,8 +45,8 @@ module _ {o : List ℕ} (g : Graded o) {n : ℕ} (small : n ≤ 9) (d : ℕ) whe
     -- where the rows of the set are sums, what is zero on the part is zero on the set
     none-annihilates : Each (λ a. SumOf (rows o n d ps) (row o n d a)) ss → (p : Polynomial) → UpTo n d p → ¬ Annihilator n p ps ss
     none-annihilates sums p u c =
-        let there : SumOf (rows o n d ps) (row o n d (c .place)) = each-member (λ a. SumOf (rows o n d ps) (row o n d a)) sums (c .inside) in
-        false≢true (sym (orthogonal-sum (map p (columns o n d)) (zero-orthogonal p u ps (c .zero)) there) ∙ sym (value-dot g small d p (c .place) u) ∙ c .one)
+        let there : SumOf (rows o n d ps) (row o n d (c .point)) = each-member (λ a. SumOf (rows o n d ps) (row o n d a)) sums (c .inside) in
+        false≢true (sym (orthogonal-sum (map p (columns o n d)) (zero-orthogonal p u ps (c .zero)) there) ∙ sym (value-dot g small d p (c .point) u) ∙ c .one)
 
     -- where there is no annihilator, the rows of the set are sums: else a row would separate one
     none-sums : ((p : Polynomial) → UpTo n d p → ¬ Annihilator n p ps ss) → Each (λ a. SumOf (rows o n d ps) (row o n d a)) ss

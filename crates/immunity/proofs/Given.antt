@@ -14,14 +14,14 @@ use Rattle.cube.specs.Mask.{points}
 use Rattle.cube.proofs.Masks.{value-at}
 use Rattle.matrix.specs.Matrix.{rankOf}
 use Rattle.immunity.specs.declared.Ranks.{Ranks}
-use Rattle.filter.specs.Part.{part}
-use Rattle.immunity.specs.Ranks.{noRanks, ranksIf}
-use Rattle.immunity.specs.Judgement.{EqualRanks, ranksAt, judged, setRank, partRank, GivenEqual}
+use Rattle.filter.specs.Sides.{ofSide}
+use Rattle.filter.specs.Part.{part, bothParts}
+use Rattle.immunity.specs.Ranks.{noRanks, ranksIf, ranksOf}
+use Rattle.immunity.specs.Judgement.{EqualRanks, ranksAt, judged, setRank, partRanks, GivenEqual}
 
 module _ (o : List ℕ) (n : ℕ) (s f : List ℕ) (d : ℕ) (up : d ≤ n) (small : n ≤ 9) where
   -- the ranks that Judge gives at a degree
-  pub ranks-given : getD (judged o n s f .ranks) d noRanks
-      ≡ record { set = rankOf o n d (points s); one = rankOf o n d (part 1 s f); zero = rankOf o n d (part 0 s f) }
+  pub ranks-given : getD (judged o n s f .ranks) d noRanks ≡ ranksOf o n d (points s) (bothParts s f)
   unfolding judged ranksAt ranksIf
   ranks-given = value-at (ranksAt o n s f) 10 d noRanks (omega arith) ∙ rw (le-leb d n up)
 
@@ -30,7 +30,7 @@ module _ (o : List ℕ) (n : ℕ) (s f : List ℕ) (d : ℕ) (up : d ≤ n) (sma
   set-given = ap (λ (r : Ranks). r .set) ranks-given
 
   -- that of a side's part
-  pub part-given : (side : ℕ) → side ≤ 1 → partRank (judged o n s f) side d ≡ rankOf o n d (part side s f)
+  pub part-given : (side : ℕ) → side ≤ 1 → ofSide side (partRanks (judged o n s f) d) ≡ rankOf o n d (part side s f)
   part-given zero l = ap (λ (r : Ranks). r .zero) ranks-given
   part-given (suc zero) l = ap (λ (r : Ranks). r .one) ranks-given
   part-given (suc (suc side)) l = absurd (omega arith)

@@ -8,3 +8,4 @@ pub mod NewPoint
 pub mod PartPoints
 pub mod Reported
 pub mod Witnesses
+pub mod WitnessBuffers

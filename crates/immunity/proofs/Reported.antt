@@ -89,7 +89,7 @@ module _ {o : List ℕ} (g : Graded o) {n : ℕ} (small : n ≤ 9) (s f : List �
     misses side h e = equal-just side n .0 e (only n a) (up-to-all n (only n a)) (record {
       zero = member-each (λ b. value n (only n a) b ≡ false) (part side s f) (λ b m. let k = member-select _ (points s) b .0 m in
           only-value n a b (inside b (k .1)) ∙ ne-eqb a b (λ q. false≢true (sym h ∙ rw (← q) at (k .0))));
-      place = a;
+      point = a;
       inside = point;
       one = only-value n a a (inside a point) ∙ eq-eqb a a refl;
     })

@@ -1,4 +1,5 @@
--- The witness of document 01: it is the one polynomial on new columns that separates the new point from the part.
+-- The witness of docs/SPECIFICATION.md, 'Witness': it is the one polynomial on new columns that separates the new point
+-- from the part.
 --   is-unique        at most one polynomial of n taps is a witness
 --   is-annihilator   a witness is zero on the part and one somewhere on the set
 --   is-same          only the coefficients matter
@@ -80,7 +81,7 @@ module _ {o : List ℕ} (g : Graded o) {n : ℕ} (small : n ≤ 9) (d : ℕ) (ss
 
   -- a witness is zero on the part and one somewhere on the set
   pub is-annihilator : {w : Polynomial} → IsWitness o n d ss ps w → Annihilator n w ps ss
-  is-annihilator x = record { zero = x .zero; place = x .point; inside = x .new-point .inside; one = x .one }
+  is-annihilator x = record { zero = x .zero; point = x .point; inside = x .new-point .inside; one = x .one }
 
   -- only the coefficients matter
   pub is-same : (v w : Polynomial) → ((u : ℕ) → u < size n → v u ≡ w u) → IsWitness o n d ss ps v → IsWitness o n d ss ps w

@@ -1,4 +1,4 @@
--- Annihilators on a set: document 01's polynomials that cancel f, or f+1, on S.
+-- Annihilators on a set, the polynomials that cancel f, or f + 1, on S: docs/SPECIFICATION.md, 'Words'.
 --   Annihilator n p ps ss   p is zero on each of the points ps, and one somewhere on the points ss
 use mathlib.Core.Path.{_≡_}
 use mathlib.Core.Bool.{true, false}
@@ -10,6 +10,6 @@ use Rattle.polynomial.specs.Polynomial.{Polynomial, value}
 -- p is zero on each point of ps, and one at a point of ss
 pub record Annihilator (n : ℕ) (p : Polynomial) (ps ss : List ℕ) : Type 0 where
   pub zero : Each (λ a. value n p a ≡ false) ps
-  pub place : ℕ
-  pub inside : List·Memᴰ place ss
-  pub one : value n p place ≡ true
+  pub point : ℕ
+  pub inside : List·Memᴰ point ss
+  pub one : value n p point ≡ true

@@ -7,15 +7,15 @@
 --   sideAt .. k                 the side for the reported degree: 1 if side 1 differs there, else 0
 --   additionsAt                 the additions of the three eliminations at a degree
 --   summed t xs                 the sum of t over a list
---   witnessBytes .. side k      the witness buffer of a side for the reported degree: zeros where the side does not differ
+--   witnessBytes .. k side      the witness buffer of a side for the reported degree: zeros where the side does not differ
 --   Judgement, judged           all of it
 --   setRank j d                 the rank of the set at degree d that a judgement gives
---   partRank j side d           the rank of a side's part
---   buffer j side               the witness buffer of a side
+--   partRanks j d               those of the parts, one for each side
 --   GivenEqual j side d         the two ranks that the judgement j gives for a side at degree d are equal
 use mathlib.Core.Path.{_≡_}
-use Prim.Native.Nat.{ℕ, zero, suc, _+_}
-use Rattle.filter.specs.Part.{part}
+use Prim.Native.Nat.{ℕ, _+_}
+use Rattle.filter.specs.Sides.{Sides, ofSide, bothSides}
+use Rattle.filter.specs.Part.{part, bothParts}
 use mathlib.Core.Bool.{Bool, false, not, _||_}
 use mathlib.Core.List.{List, [], _∷_, map}
 use mathlib.Core.Option.{Option, none, some}
@@ -25,7 +25,7 @@ use Rattle.cube.specs.NumberLists.{below}
 use Rattle.cube.specs.Mask.{points, byte, mask}
 use Rattle.matrix.specs.Matrix.{rankOf}
 use Rattle.immunity.specs.declared.Ranks.{Ranks}
-use Rattle.immunity.specs.Ranks.{noRanks, ranksIf, ranksUpTo, additionsOf}
+use Rattle.immunity.specs.Ranks.{noRanks, ranksIf, parts, ranksUpTo, additionsOf}
 use Rattle.immunity.specs.First.{first}
 use Rattle.immunity.specs.Witness.{witnessAt}
 
@@ -49,7 +49,7 @@ reported o n s f = first (eitherDiffers o n s f) (below (n + 1))
 -- the ranks at a degree, all 0 past n
 unfoldable pub ranksAt : List ℕ → ℕ → List ℕ → List ℕ → ℕ → Ranks
 unfolding ranksIf
-ranksAt o n s f d = ranksUpTo o n (points s) (part 1 s f) (part 0 s f) d
+ranksAt o n s f d = ranksUpTo o n (points s) (bothParts s f) d
 
 -- the side for the reported degree
 unfoldable pub sideAt : List ℕ → ℕ → List ℕ → List ℕ → Option ℕ → ℕ
@@ -59,7 +59,7 @@ sideAt o n s f (some k) = byte (differs o n s f k 1)
 
 -- the additions at a degree
 unfoldable pub additionsAt : List ℕ → ℕ → List ℕ → List ℕ → ℕ → ℕ
-additionsAt o n s f d = additionsOf o n d (points s) (part 1 s f) (part 0 s f)
+additionsAt o n s f d = additionsOf o n d (points s) (bothParts s f)
 
 -- the sum of a number for each member
 unfoldable pub summed : (ℕ → ℕ) → List ℕ → ℕ
@@ -67,10 +67,10 @@ summed t [] = 0
 summed t (x ∷ xs) = t x + summed t xs
 
 -- the witness buffer of a side for the reported degree
-unfoldable pub witnessBytes : List ℕ → ℕ → List ℕ → List ℕ → ℕ → Option ℕ → List ℕ
+unfoldable pub witnessBytes : List ℕ → ℕ → List ℕ → List ℕ → Option ℕ → ℕ → List ℕ
 unfolding witnessAt
-witnessBytes o n s f side none = mask (λ u. false)
-witnessBytes o n s f side (some k) = mask (witnessAt o n k (points s) (part side s f))
+witnessBytes o n s f none side = mask (λ u. false)
+witnessBytes o n s f (some k) side = mask (witnessAt o n k (points s) (part side s f))
 
 -- what Judge answers, and leaves in the two witness buffers
 pub record Judgement : Type 0 where
@@ -78,8 +78,7 @@ pub record Judgement : Type 0 where
   pub degree : Option ℕ
   pub side : ℕ
   pub additions : ℕ
-  pub one : List ℕ
-  pub zero : List ℕ
+  pub witnesses : Sides (List ℕ)
 
 -- the judgement of a set and a table
 unfoldable pub judged : List ℕ → ℕ → List ℕ → List ℕ → Judgement
@@ -91,24 +90,17 @@ judged o n s f =
       degree = k;
       side = sideAt o n s f k;
       additions = summed (additionsAt o n s f) (below (n + 1));
-      one = witnessBytes o n s f 1 k;
-      zero = witnessBytes o n s f 0 k;
+      witnesses = bothSides (witnessBytes o n s f k);
     }
 
 -- the rank of the set at a degree
 abbrev pub setRank : Judgement → ℕ → ℕ
 setRank j d = getD (j .ranks) d noRanks .set
 
--- the rank of a side's part
-abbrev pub partRank : Judgement → ℕ → ℕ → ℕ
-partRank j zero d = getD (j .ranks) d noRanks .zero
-partRank j (suc side) d = getD (j .ranks) d noRanks .one
-
--- the witness buffer of a side
-unfoldable pub buffer : Judgement → ℕ → List ℕ
-buffer j zero = j .zero
-buffer j (suc side) = j .one
+-- the ranks of the parts at a degree
+abbrev pub partRanks : Judgement → ℕ → Sides ℕ
+partRanks j d = parts (getD (j .ranks) d noRanks)
 
 -- the two ranks that the judgement gives, of the set and of the side's part, are equal
 abbrev pub GivenEqual : Judgement → ℕ → ℕ → Type 0
-GivenEqual j side d = setRank j d ≡ partRank j side d
+GivenEqual j side d = setRank j d ≡ ofSide side (partRanks j d)

@@ -1,16 +1,19 @@
--- The ranks of three lists of points: the set, part 1 and part 0.
---   noRanks                      all 0
---   ranksIf b r                  the given ranks, or all 0
---   ranksOf o n d ss ps qs       the ranks of the points ss, ps and qs at degree d
---   ranksUpTo o n ss ps qs d     the same up to degree n, and all 0 past it
---   ranksIn ss ps qs d           the ranks at degree d that three lists of ranks give
---   additionsOf o n d ss ps qs   the additions of the three eliminations
---   differ r                     the second or the third rank is not the first
+-- The ranks of the points of a set and of its two parts.
+--   noRanks                   all 0
+--   ranksIf b r               the given ranks, or all 0
+--   parts r                   those of the parts, one for each side
+--   ranksOf o n d ss ps       the ranks at degree d of the points ss and, for each side, of the points ps
+--   ranksUpTo o n ss ps d     the same up to degree n, and all 0 past it
+--   ranksIn ss ps d           the ranks at degree d that lists of ranks give
+--   additionsOf o n d ss ps   the additions of the three eliminations
+--   partDiffers r side        the rank of a side's part is not that of the set
+--   differ r                  one of the two is not
 use mathlib.Core.Bool.{Bool, true, false, not, _||_}
 use mathlib.Core.List.{List}
 use Prim.Native.Nat.{ℕ, _+_}
 use lib.Dec.{eqb, leb}
 use lib.ListN.{getD}
+use Rattle.filter.specs.Sides.{Sides, pair, ofSide}
 use Rattle.matrix.specs.Matrix.{eliminated, rankOf}
 use Rattle.immunity.specs.declared.Ranks.{Ranks}
 
@@ -23,22 +26,30 @@ unfoldable pub ranksIf : Bool → Ranks → Ranks
 ranksIf true r = r
 ranksIf false r = noRanks
 
--- the ranks of three lists of points at a degree
-abbrev pub ranksOf : List ℕ → ℕ → ℕ → List ℕ → List ℕ → List ℕ → Ranks
-ranksOf o n d ss ps qs = record { set = rankOf o n d ss; one = rankOf o n d ps; zero = rankOf o n d qs }
+-- those of the parts
+abbrev pub parts : Ranks → Sides ℕ
+parts r = pair (r .one) (r .zero)
+
+-- the ranks of the set's points and of each part's at a degree
+abbrev pub ranksOf : List ℕ → ℕ → ℕ → List ℕ → Sides (List ℕ) → Ranks
+ranksOf o n d ss ps = record { set = rankOf o n d ss; one = rankOf o n d (ps .one); zero = rankOf o n d (ps .zero) }
 
 -- the same up to degree n, all 0 past it
-abbrev pub ranksUpTo : List ℕ → ℕ → List ℕ → List ℕ → List ℕ → ℕ → Ranks
-ranksUpTo o n ss ps qs d = ranksIf (leb d n) (ranksOf o n d ss ps qs)
+abbrev pub ranksUpTo : List ℕ → ℕ → List ℕ → Sides (List ℕ) → ℕ → Ranks
+ranksUpTo o n ss ps d = ranksIf (leb d n) (ranksOf o n d ss ps)
 
--- the ranks at a degree that three lists give
-abbrev pub ranksIn : List ℕ → List ℕ → List ℕ → ℕ → Ranks
-ranksIn ss ps qs d = record { set = getD ss d 0; one = getD ps d 0; zero = getD qs d 0 }
+-- the ranks at a degree that lists give
+abbrev pub ranksIn : List ℕ → Sides (List ℕ) → ℕ → Ranks
+ranksIn ss ps d = record { set = getD ss d 0; one = getD (ps .one) d 0; zero = getD (ps .zero) d 0 }
 
 -- the additions of the three eliminations
-abbrev pub additionsOf : List ℕ → ℕ → ℕ → List ℕ → List ℕ → List ℕ → ℕ
-additionsOf o n d ss ps qs = eliminated o n d ss .additions + eliminated o n d ps .additions + eliminated o n d qs .additions
+abbrev pub additionsOf : List ℕ → ℕ → ℕ → List ℕ → Sides (List ℕ) → ℕ
+additionsOf o n d ss ps = eliminated o n d ss .additions + eliminated o n d (ps .one) .additions + eliminated o n d (ps .zero) .additions
 
--- the second or the third is not the first
+-- the rank of a side's part is not that of the set
+abbrev pub partDiffers : Ranks → ℕ → Bool
+partDiffers r side = not (eqb (r .set) (ofSide side (parts r)))
+
+-- one of the two is not
 abbrev pub differ : Ranks → Bool
-differ r = not (eqb (r .set) (r .one)) || not (eqb (r .set) (r .zero))
+differ r = partDiffers r 1 || partDiffers r 0

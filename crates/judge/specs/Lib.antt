@@ -1,4 +1,3 @@
 -- Judge, and what it does in the workspace.
 pub mod Judge
-pub mod NewRow
 pub mod Ready

@@ -1,22 +1,29 @@
-// Judge: the ranks of a set and of its two parts at each degree, the reported degree, and the witnesses.
+// Judge: docs/SPECIFICATION.md, 'Judge'. The ranks of a set and of its two parts at each degree, the reported degree,
+// and the witnesses.
 ghost use mathlib.Core.Path.{_≡_};
-ghost use mathlib.Core.Bool.{true, false};
+ghost use mathlib.Core.Option.{none};
+ghost use Prim.Native.Nat.{_≤_};
 ghost use lib.ListN.{length, replicate};
-ghost use Rattle.cube.specs.NumberLists.{isEmpty};
-ghost use Rattle.cube.specs.Cube.{taps};
-ghost use Rattle.cube.specs.Mask.{wellFormed, points};
-ghost use Rattle.judge.specs.declared.Finding.the-variants.{Refused};
+ghost use Rattle.cube.specs.Mask.{points, mask};
+ghost use Rattle.refusal.specs.Verdict.{verdict};
+ghost use Rattle.refusal.specs.declared.verdict.Verdict.the-variants.{Passed};
+ghost use Rattle.order.specs.Order.{Graded};
+ghost use Rattle.order.specs.BuiltIn.{graded};
+ghost use Rattle.filter.specs.Sides.{pair};
 ghost use Rattle.immunity.specs.Ranks.{noRanks};
-ghost use Rattle.judge.specs.Judge.{Judges};
+ghost use Rattle.immunity.specs.Witness.{newPoint, witnessAt};
+ghost use Rattle.judge.specs.Ready.{Ready};
+ghost use Rattle.judge.specs.declared.Finding.the-variants.{Refused};
+ghost use Rattle.judge.specs.Judge.{judgeChecks, judgeOutcome, JudgeContract};
 use crate::ranks::DEGREES;
 use crate::ranks::all_ranks;
 use crate::ranks::first_difference;
 use crate::ranks::side_of;
-use crate::witness::write_witnesses;
 use cube::POINTS;
-use cube::mask::is_empty;
-use cube::mask::well_formed;
-use cube::valid_taps;
+use filter::checks::check_filter_lengths;
+use filter::checks::check_filter_masks;
+use filter::checks::check_length;
+use filter::checks::check_taps;
 use filter::part::part_mask;
 use gf2::WORKSPACE;
 use gf2::packed::clear;
@@ -24,18 +31,22 @@ use immunity::Ranks;
 use matrix::rows::fill_rows;
 use order::graded_order;
 use refusal::Refusal;
+use refusal::verdict::Verdict;
+use witness::write_side;
 
 mod ranks; // ranks.rt: the ranks at each degree
-mod witness; // witness.rt: the witness of a side
+
+// What Judge reports beside the ranks.
+pub struct Report {
+    pub degree: usize,
+    pub side: u8,
+    pub additions: u32,
+}
 
 // What Judge found.
 pub enum Finding {
     Refused(Refusal),
-    Judged {
-        degree: usize,
-        side: u8,
-        additions: u32,
-    },
+    Judged(Report),
 }
 
 // What Judge answers: the finding, and the ranks at each degree, all 0 past n and where Judge refuses.
@@ -54,37 +65,35 @@ pub fn judge(
     one: &mut [u8],
     zero: &mut [u8],
 ) -> JudgeAnswer
-    ensures { λ r. ⌜ Judges (now (set .entry)) (now (table .entry)) n (now (workspace .entry)) (now (one .entry)) (now (zero .entry))
-        (now (workspace .exit)) (now (one .exit)) (now (zero .exit)) r ⌝ }
+    ensures { λ r. ⌜ JudgeContract (judgeOutcome graded (now (set .entry)) (now (table .entry)) n (length (now (workspace .entry))) (length (now (one .entry))) (length (now (zero .entry))))
+        (now (workspace .entry)) (now (workspace .exit)) (pair (now (one .entry)) (now (zero .entry))) (pair (now (one .exit)) (now (zero .exit))) r ⌝ }
 {
-    if set.len() != POINTS {
-        return refuse(Refusal::Length);
+    match judge_checks(set, table, n, workspace.len(), one.len(), zero.len()) {
+        Verdict::Refused(x) => refuse(x),
+        Verdict::Passed => {
+            let order = graded_order();
+            judge_points(set, table, n, &order, workspace, one, zero)
+        }
     }
-    if table.len() != POINTS {
-        return refuse(Refusal::Length);
-    }
-    if workspace.len() != WORKSPACE {
-        return refuse(Refusal::Length);
-    }
-    if one.len() != POINTS {
-        return refuse(Refusal::Length);
-    }
-    if zero.len() != POINTS {
-        return refuse(Refusal::Length);
-    }
-    if !valid_taps(n) {
-        return refuse(Refusal::Taps);
-    }
-    if !well_formed(set, n) {
-        return refuse(Refusal::Bytes);
-    }
-    if !well_formed(table, n) {
-        return refuse(Refusal::Bytes);
-    }
-    if is_empty(set) {
-        return refuse(Refusal::EmptySet);
-    }
-    judge_points(set, table, n, workspace, one, zero)
+}
+
+// The checks: lengths, the taps, the bytes of the set and of the table, a point in the set.
+fn judge_checks(
+    set: &[u8],
+    table: &[u8],
+    n: usize,
+    workspace: usize,
+    one: usize,
+    zero: usize,
+) -> Verdict
+    ensures { λ r. ⌜ r ≡ verdict (judgeChecks (now (set .entry)) (now (table .entry)) n workspace one zero) ⌝ }
+{
+    let v = check_filter_lengths(Verdict::Passed, set, table);
+    let v = check_length(v, workspace, WORKSPACE);
+    let v = check_length(v, one, POINTS);
+    let v = check_length(v, zero, POINTS);
+    let v = check_taps(v, n);
+    check_filter_masks(v, set, table, n)
 }
 
 // A refusal: the ranks are all 0.
@@ -101,31 +110,30 @@ fn refuse(why: Refusal) -> JudgeAnswer
     }
 }
 
-// The same of a set and a table that passed the checks; the workspace is then zero.
+// The same of a set and a table that passed the checks, the columns in the order lent; the workspace is then zero.
 fn judge_points(
     set: &[u8],
     table: &[u8],
     n: usize,
+    order: &[u16],
     workspace: &mut [u64],
     one: &mut [u8],
     zero: &mut [u8],
 ) -> JudgeAnswer
-    requires { ⌜ (length (now set) ≡ 512) × (length (now table) ≡ 512) × (length (now workspace) ≡ 8192) × (length (now one) ≡ 512) × (length (now zero) ≡ 512)
-        × (taps n ≡ true) × (wellFormed n (now set) ≡ true) × (wellFormed n (now table) ≡ true) × (isEmpty (points (now set)) ≡ false) ⌝ }
-    ensures { λ r. ⌜ Judges (now (set .entry)) (now (table .entry)) n (now (workspace .entry)) (now (one .entry)) (now (zero .entry))
-        (now (workspace .exit)) (now (one .exit)) (now (zero .exit)) r ⌝ }
+    requires { ⌜ (verdict (judgeChecks (now set) (now table) n (length (now workspace)) (length (now one)) (length (now zero))) ≡ Passed) × Graded (now order) ⌝ }
+    ensures { λ r. ⌜ JudgeContract (judgeOutcome (now (order .entry)) (now (set .entry)) (now (table .entry)) n (length (now (workspace .entry))) (length (now (one .entry))) (length (now (zero .entry))))
+        (now (workspace .entry)) (now (workspace .exit)) (pair (now (one .entry)) (now (zero .entry))) (pair (now (one .exit)) (now (zero .exit))) r ⌝ }
 {
-    let order = graded_order();
     let part_one = part_mask(set, table, 1);
     let part_zero = part_mask(set, table, 0);
-    fill_rows(workspace, &order, n);
-    let found = all_ranks(workspace, &order, set, &part_one, &part_zero, n);
+    fill_rows(workspace, order, n);
+    let found = all_ranks(workspace, order, set, &part_one, &part_zero, n);
     let ranks = found.ranks;
     let k = first_difference(ranks, n);
     let here = ranks[k];
     write_witnesses(
         workspace,
-        &order,
+        order,
         set,
         &part_one,
         &part_zero,
@@ -136,12 +144,36 @@ fn judge_points(
         zero,
     );
     clear(workspace);
+    let report = Report {
+        degree: k,
+        side: side_of(here),
+        additions: found.additions,
+    };
     JudgeAnswer {
-        finding: Finding::Judged {
-            degree: k,
-            side: side_of(here),
-            additions: found.additions,
-        },
+        finding: Finding::Judged(report),
         ranks,
     }
+}
+
+// The witnesses against the parts `p` and `q` of the set at degree `d`, where `r` are the ranks, are written.
+fn write_witnesses(
+    ws: &mut [u64],
+    order: &[u16],
+    set: &[u8],
+    p: &[u8],
+    q: &[u8],
+    n: usize,
+    d: usize,
+    r: Ranks,
+    one: &mut [u8],
+    zero: &mut [u8],
+)
+    requires { ⌜ Ready (now order) n (now ws) (now set) (now p) (now q) × (d ≤ n) × (length (now one) ≡ 512) × (length (now zero) ≡ 512)
+        × (r .set ≡ r .one → newPoint (now order) n d (points (now set)) (points (now p)) ≡ none)
+        × (r .set ≡ r .zero → newPoint (now order) n d (points (now set)) (points (now q)) ≡ none) ⌝ }
+    ensures { λ _. ⌜ now (one .exit) ≡ mask (witnessAt (now (order .entry)) n d (points (now (set .entry))) (points (now (p .entry)))) ⌝ }
+    ensures { λ _. ⌜ now (zero .exit) ≡ mask (witnessAt (now (order .entry)) n d (points (now (set .entry))) (points (now (q .entry)))) ⌝ }
+{
+    write_side(ws, order, set, p, n, d, r.set != r.one, one);
+    write_side(ws, order, set, q, n, d, r.set != r.zero, zero);
 }

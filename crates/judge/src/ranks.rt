@@ -1,21 +1,21 @@
 // The ranks of a set and of its two parts at each degree, and the first degree at which they differ.
 ghost use mathlib.Core.Path.{_≡_};
 ghost use mathlib.Core.List.{map};
-ghost use mathlib.Core.Option.{none, some};
-ghost use mathlib.Core.Bool.{true, not};
+ghost use mathlib.Core.Option.{some};
 ghost use Prim.Native.Nat.{ℕ, _+_, _≤_};
-ghost use lib.Dec.{eqb, leb};
+ghost use lib.Dec.{leb};
 ghost use lib.ListN.{length, getD, drop};
 ghost use Rattle.cube.specs.NumberLists.{below, Inside};
-ghost use Rattle.cube.specs.Cube.{taps, size as sizeOf};
-ghost use Rattle.cube.specs.Mask.{points, byte, mask};
+ghost use Rattle.cube.specs.Cube.{size as sizeOf};
+ghost use Rattle.cube.specs.Mask.{points, byte};
 ghost use Rattle.order.specs.Order.{Graded};
 ghost use Rattle.gf2.specs.Packed.{unpacked};
 ghost use Rattle.matrix.specs.Matrix.{eliminated, rankOf};
 ghost use Rattle.matrix.specs.Workspace.{exponents, RowsFrom};
 ghost use Rattle.immunity.specs.First.{first};
 ghost use Rattle.immunity.specs.Judgement.{summed};
-ghost use Rattle.immunity.specs.Ranks.{noRanks, ranksIf, ranksIn, ranksUpTo, additionsOf, differ};
+ghost use Rattle.immunity.specs.Ranks.{noRanks, ranksIf, ranksIn, ranksUpTo, additionsOf, partDiffers, differ};
+ghost use Rattle.filter.specs.Sides.{pair};
 ghost use Rattle.judge.specs.Ready.{Ready};
 use gf2::COLUMNS;
 use gf2::basis::count_below;
@@ -40,7 +40,7 @@ pub struct FoundRanks {
 }
 
 // The ranks of the points of one mask at each degree up to `n`, and all 0 past it: one elimination finds them all.
-fn mask_ranks(ws: &mut [u64], order: &[u16; 512], mask: &[u8], n: usize) -> MaskRanks
+fn mask_ranks(ws: &mut [u64], order: &[u16], mask: &[u8], n: usize) -> MaskRanks
     requires { ⌜ (length (now ws) ≡ 8192) × (length (now mask) ≡ 512) × Graded (now order) × (n ≤ 9) × Inside (sizeOf n) (points (now mask)) × RowsFrom (exponents (now order) n) n (unpacked (now ws)) 0 ⌝ }
     ensures { λ r. ⌜ ((d : ℕ) → d ≤ n → getD (r .ranks) d 0 ≡ rankOf (now (order .entry)) n d (points (now (mask .entry)))) ⌝ }
     ensures { λ r. ⌜ r .additions ≡ summed (λ d. eliminated (now (order .entry)) n d (points (now (mask .entry))) .additions) (below (n + 1)) ⌝ }
@@ -64,7 +64,7 @@ fn mask_ranks(ws: &mut [u64], order: &[u16; 512], mask: &[u8], n: usize) -> Mask
 // The ranks of three masks at each degree up to `n`, side by side, and all 0 past it.
 fn by_degree(set: [u16; 10], one: [u16; 10], zero: [u16; 10], n: usize) -> [Ranks; 10]
     requires { ⌜ n ≤ 9 ⌝ }
-    ensures { λ r. ⌜ r ≡ map (λ d. ranksIf (leb d n) (ranksIn set one zero d)) (below 10) ⌝ }
+    ensures { λ r. ⌜ r ≡ map (λ d. ranksIf (leb d n) (ranksIn set (pair one zero) d)) (below 10) ⌝ }
 {
     let mut ranks = [Ranks {
         set: 0,
@@ -86,15 +86,15 @@ fn by_degree(set: [u16; 10], one: [u16; 10], zero: [u16; 10], n: usize) -> [Rank
 // The ranks of the points of three masks at each degree up to `n`, and all 0 past it.
 pub fn all_ranks(
     ws: &mut [u64],
-    order: &[u16; 512],
+    order: &[u16],
     set: &[u8],
     one: &[u8],
     zero: &[u8],
     n: usize,
 ) -> FoundRanks
     requires { ⌜ Ready (now order) n (now ws) (now set) (now one) (now zero) ⌝ }
-    ensures { λ r. ⌜ r .ranks ≡ map (ranksUpTo (now (order .entry)) n (points (now (set .entry))) (points (now (one .entry))) (points (now (zero .entry)))) (below 10) ⌝ }
-    ensures { λ r. ⌜ r .additions ≡ summed (λ d. additionsOf (now (order .entry)) n d (points (now (set .entry))) (points (now (one .entry))) (points (now (zero .entry)))) (below (n + 1)) ⌝ }
+    ensures { λ r. ⌜ r .ranks ≡ map (ranksUpTo (now (order .entry)) n (points (now (set .entry))) (pair (points (now (one .entry))) (points (now (zero .entry))))) (below 10) ⌝ }
+    ensures { λ r. ⌜ r .additions ≡ summed (λ d. additionsOf (now (order .entry)) n d (points (now (set .entry))) (pair (points (now (one .entry))) (points (now (zero .entry))))) (below (n + 1)) ⌝ }
     ensures { λ r. ⌜ drop 512 (unpacked (now (ws .exit))) ≡ drop 512 (unpacked (now (ws .entry))) ⌝ }
 {
     let s = mask_ranks(ws, order, set, n);
@@ -138,7 +138,7 @@ pub fn first_difference(ranks: [Ranks; 10], n: usize) -> usize
 
 // The side of the reported degree: 1 if the rank of part 1 is not that of the set, else 0.
 pub fn side_of(here: Ranks) -> u8
-    ensures { λ s. ⌜ s ≡ byte (not (eqb (here .set) (here .one))) ⌝ }
+    ensures { λ s. ⌜ s ≡ byte (partDiffers here 1) ⌝ }
 {
     if here.set != here.one { 1 } else { 0 }
 }

@@ -1,3 +1,4 @@
+-- The loop's invariant, Sums: the sums of the points below a stand in their places; where a point is outside the part, fewer than 512 rows are kept.
 use mathlib.Core.Path.{_≡_, sym, ap, _∙_, subst}
 use mathlib.Core.Bool.{true, false}
 use mathlib.Core.Logic.{⊎-elim}

@@ -1,3 +1,4 @@
+-- The loop's invariant: the numbers of the certificate below i are those of numberAt; at 4096 the two lists agree at every place (ext-getD).
 use borrow.Author.Count.{below-none, below-more}
 use mathlib.Core.Path.{_≡_, sym, _∙_}
 use Prim.Native.Nat.{ℕ, _-_, _≤_, _<_}

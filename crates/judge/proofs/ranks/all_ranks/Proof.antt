@@ -1,3 +1,4 @@
+-- Each call leaves the rows of points in their places, so the workspace is ready for the next (ready-after); ranks and additions are joined by degree.
 use borrow.Author.Needs.{needs}
 use mathlib.Core.Path.{_≡_, sym, _∙_}
 use Prim.Native.Nat.{ℕ, _+_}
@@ -5,6 +6,7 @@ use native.Mathlib.Omega.{arith}
 use Rattle.cube.specs.NumberLists.{below}
 use Rattle.cube.specs.Mask.{points}
 use Rattle.matrix.specs.Matrix.{eliminated}
+use Rattle.filter.specs.Sides.{pair}
 use Rattle.immunity.specs.declared.Ranks.{Ranks}
 use Rattle.immunity.specs.Ranks.{ranksOf, ranksIn}
 use Rattle.judge.specs.Ready.{Ready}
@@ -14,14 +16,14 @@ use Rattle.judge.proofs.ranks.all_ranks.Statement.{statement}
 use Rattle.judge.proofs.ranks.all_ranks.Tie as tie
 
 -- the workspace is ready after the set was taken
-ready-one : (c : tie.After-mask-ranks) → let a = c .before .before .before .before .before .before .args in
+ready-one : (c : tie.After-mask-ranks) → let a = c .before .before .before .before .before .before .before .args in
     Ready (a .order .now) (a .n) (c .mask-ranks .last .0) (a .set .now) (a .one .now) (a .zero .now)
 ready-one c =
-    let s = c .before .before .before .before .before .before in
+    let s = c .before .before .before .before .before .before .before in
     ready-after (s .pre) (c .mask-ranks .last .0) (c .mask-ranks .kept .0) (c .mask-ranks .ensures .1 .1 .1)
 
 -- and after part 1 was
-ready-zero : (c : tie.After-mask-ranks2) → let a = c .before .before .before .before .before .before .before .before .before .before .args in
+ready-zero : (c : tie.After-mask-ranks2) → let a = c .before .before .before .before .before .before .before .before .before .before .before .args in
     Ready (a .order .now) (a .n) (c .mask-ranks2 .last .0) (a .set .now) (a .one .now) (a .zero .now)
 ready-zero c = ready-after (ready-one (c .before .before .before .before)) (c .mask-ranks2 .last .0) (c .mask-ranks2 .kept .0) (c .mask-ranks2 .ensures .1 .1 .1)
 
@@ -56,14 +58,14 @@ returns c =
     let z = b .before .before .before .before .before .before in
     let p = z .before .before .before .before in
     let s = p .before .before .before .before in
-    let a = s .before .before .before .before .before .before .args in
+    let a = s .before .before .before .before .before .before .before .args in
     let o = a .order .now in
     let n = a .n in
     let h = s .mask-ranks .ensures in
     let h₁ = p .mask-ranks2 .ensures in
     let h₂ = z .mask-ranks3 .ensures in (
       b .by-degree .ensures
-          ∙ ranks-same (ranksIn (s .mask-ranks .result .ranks) (p .mask-ranks2 .result .ranks) (z .mask-ranks3 .result .ranks)) (λ d. ranksOf o n d (points (a .set .now)) (points (a .one .now)) (points (a .zero .now))) n
+          ∙ ranks-same (ranksIn (s .mask-ranks .result .ranks) (pair (p .mask-ranks2 .result .ranks) (z .mask-ranks3 .result .ranks))) (λ d. ranksOf o n d (points (a .set .now)) (pair (points (a .one .now)) (points (a .zero .now)))) n
           (λ d l. ranks-by (h .0 d l) (h₁ .0 d l) (h₂ .0 d l)) (below 10),
       (
         sum-by (h .1 .0) (h₁ .1 .0) (h₂ .1 .0) ∙ sym (summed-three (λ d. eliminated o n d (points (a .set .now)) .additions) (λ d. eliminated o n d (points (a .one .now)) .additions) (λ d. eliminated o n d (points (a .zero .now)) .additions) (below (n + 1))),

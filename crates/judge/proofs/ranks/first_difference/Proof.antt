@@ -1,3 +1,4 @@
+-- The loop's invariant: the first degree that differs, of all up to n, is the first of those from d on; at d = n only n is left.
 use mathlib.Core.Path.{_≡_, sym, ap, _∙_}
 use mathlib.Core.Bool.{Bool, true, false}
 use mathlib.Core.Option.{none, some}

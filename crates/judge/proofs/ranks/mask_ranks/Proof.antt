@@ -1,3 +1,4 @@
+-- One elimination serves every degree: its pivots below a degree's columns count the rank (tallied-rank), its tally there the additions.
 use borrow.Author.Needs.{needs}
 use mathlib.Core.Path.{_≡_, refl, sym, ap, _∙_}
 use mathlib.Core.List.{List}
@@ -50,13 +51,13 @@ abbrev μ-loop : tie.MeasureT-loop
 eliminate-tallied-requires : tie.Need-eliminate-tallied-requires Inv-loop μ-loop
 unfolding zeros
 eliminate-tallied-requires c κs =
-    let s = c .before .before .before .before .before in
+    let s = c .before .before .before .before .before .before in
     (s .pre .0, length-replicate {A = ℕ} 512 0, refl, s .pre .1)
 
 loop-holds : tie.Need-loop-holds Inv-loop μ-loop
 loop-holds c =
     let e = c .before .before .before .before in
-    let a = e .before .before .before .before .before .before .args in
+    let a = e .before .before .before .before .before .before .before .args in
     let step = ap (summed (addedAt (a .order .now) (a .n) (a .mask .now))) (degrees-all (a .n)) in
     (omega arith, omega arith, length-replicate {A = ℕ} 10 0, λ k l. absurd (omega arith), omega (arith, step))
 
@@ -70,7 +71,7 @@ long-tally c = c .eliminate-tallied .kept .1 .1 .0 ∙ length-replicate {A = ℕ
 
 column-count-requires : tie.Need-column-count-requires Inv-loop μ-loop
 column-count-requires c κs =
-    let s = c .before .before .before .before .before .before .before .before .before .before .before .before in
+    let s = c .before .before .before .before .before .before .before .before .before .before .before .before .before in
     (s .pre .2, s .pre .3)
 
 slice-aggregate-count-below : tie.Need-slice-aggregate-count-below Inv-loop μ-loop
@@ -92,7 +93,7 @@ slice-aggregate-sum-below c = sym (long-tally (c .before .before .before .before
 -- there are at most 512 columns
 few-columns : (c : tie.After-column-count Inv-loop μ-loop) → c .column-count .result ≤ 512
 few-columns c =
-    let s = c .before .before .before .before .before .before .before .before .before .before .before .before .before in
+    let s = c .before .before .before .before .before .before .before .before .before .before .before .before .before .before in
     rw (c .column-count .ensures) (length-columns (s .pre .2) _ _)
 
 sum-below-requires : tie.Need-sum-below-requires Inv-loop μ-loop
@@ -108,7 +109,7 @@ few-added c = omega (arith, c .sum-below .ensures .1, few-columns (c .before .be
 add-additions : tie.Need-add-additions Inv-loop μ-loop
 add-additions c =
     let l = c .before .before .before .before .before .before in
-    let s = l .before .before .before .before .before .before .before .before .before .before .before in
+    let s = l .before .before .before .before .before .before .before .before .before .before .before .before in
     omega (arith, few-added c, l .loop .inv .1, s .pre .3)
 
 loop-again : tie.Need-loop-again Inv-loop μ-loop
@@ -117,7 +118,7 @@ loop-again c =
     let k = q .before .before in
     let l = k .before .before in
     let e = l .before .before .before .before .before in
-    let s = e .before .before .before .before .before .before in
+    let s = e .before .before .before .before .before .before .before in
     let i = l .loop .inv in
     let o = s .args .order .now in
     let n = s .args .n in
@@ -148,7 +149,7 @@ returns : tie.Need-returns Inv-loop μ-loop
 returns c =
     let l = c .before in
     let e = l .before .before .before .before .before in
-    let s = e .before .before .before .before .before .before in
+    let s = e .before .before .before .before .before .before .before in
     let i = l .loop .inv in (
       λ d low. i .3 d (omega arith),
       (

@@ -5,8 +5,8 @@ use native.Mathlib.Omega.{arith}
 use lib.ListN.{length, drop, length-set}
 use Rattle.gf2.specs.Packed.{zeros}
 use Rattle.gf2.proofs.Clearing.{clear-turn, clear-done}
-use Rattle.judge.proofs.witness.clear_bytes.Statement.{statement}
-use Rattle.judge.proofs.witness.clear_bytes.Tie as tie
+use Rattle.witness.proofs.clear_bytes.Statement.{statement}
+use Rattle.witness.proofs.clear_bytes.Tie as tie
 
 abbrev Inv-loop : tie.InvT-loop
 Inv-loop bytes₀ i₀ bytes i = (i ≤ length bytes₀) × (length bytes ≡ length bytes₀) × (bytes ≡ zeros i ++ drop i bytes₀)

@@ -33,7 +33,7 @@ use Rattle.matrix.specs.Workspace.{exponents, RowsFrom, stored, Eliminates}
 use Rattle.matrix.proofs.Stored.{stays-rows, short-row, stored-row, kept-rows, kept-count}
 use Rattle.immunity.specs.First.{first}
 use Rattle.immunity.specs.Witness.{isNew, newPoint, witnessRow, witnessAt}
-use Rattle.judge.specs.NewRow.{isLeft, keptWith, FindsNew}
+use Rattle.witness.specs.NewRow.{isLeft, keptWith, FindsNew}
 use Rattle.immunity.proofs.First.{first-passes, first-same}
 
 module _ {o : List ℕ} (g : Graded o) (n d : ℕ) (ss ps : List ℕ) where

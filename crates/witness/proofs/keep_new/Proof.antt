@@ -1,3 +1,4 @@
+-- The loop's invariant, Tried: nothing was left of the rows of the points below a, and the kept rows stay; each turn is a law of NewRow.antt.
 use mathlib.Core.Path.{_≡_, ap, _∙_}
 use mathlib.Core.Logic.{⊎-elim}
 use Prim.Native.Nat.{_-_, _≤_}
@@ -5,9 +6,9 @@ use native.Mathlib.Omega.{arith}
 use lib.ListN.{length}
 use Rattle.gf2.specs.Packed.{unpacked, Pivots}
 use Rattle.gf2.proofs.Rows.{length-rows}
-use Rattle.judge.proofs.NewRow.{Tried, tried-none, tried-other, tried-zero, tried-new, tried-all}
-use Rattle.judge.proofs.witness.keep_new.Statement.{statement}
-use Rattle.judge.proofs.witness.keep_new.Tie as tie
+use Rattle.witness.proofs.NewRow.{Tried, tried-none, tried-other, tried-zero, tried-new, tried-all}
+use Rattle.witness.proofs.keep_new.Statement.{statement}
+use Rattle.witness.proofs.keep_new.Tie as tie
 
 abbrev Inv-loop : tie.InvT-loop
 Inv-loop ws₀ pivots₀ set kept columns a₀ ws pivots a =

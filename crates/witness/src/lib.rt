@@ -1,11 +1,11 @@
-// The witness of document 01, 'Judgement': the polynomial that is zero on a part of the set, and not on all of the set.
+// The witness of docs/SPECIFICATION.md, 'Witness': the polynomial that is zero on a part of the set, and not on all
+// of the set.
 ghost use mathlib.Core.Path.{_≡_};
 ghost use mathlib.Core.Option.{none};
 ghost use Prim.Native.Nat.{_≤_, _+_, _<_};
 ghost use lib.ListN.{length, drop};
 ghost use Rattle.cube.specs.Mask.{points, mask, withOnes};
 ghost use Rattle.immunity.specs.Witness.{newPoint, witnessAt};
-ghost use Rattle.judge.specs.Ready.{Ready};
 ghost use mathlib.Core.Bool.{false};
 ghost use Rattle.cube.specs.NumberLists.{Inside};
 ghost use Rattle.cube.specs.Cube.{size as sizeOf};
@@ -13,19 +13,18 @@ ghost use Rattle.order.specs.Order.{Graded, columns as columnsOf};
 ghost use Rattle.gf2.specs.Vector.{chosen};
 ghost use Rattle.gf2.specs.Packed.{unpack, unpacked, zeros, Pivots};
 ghost use Rattle.matrix.specs.Workspace.{exponents, RowsFrom};
-ghost use Rattle.judge.specs.NewRow.{FindsNew};
-use cube::Exponent;
+ghost use Rattle.witness.specs.NewRow.{FindsNew};
 use cube::POINTS;
 use cube::size;
 use gf2::COLUMNS;
 use gf2::solve::entry_at;
 use gf2::solve::solve_last;
-use immunity::Ranks;
 use matrix::FIRST_POINT;
 use matrix::elimination::eliminate_with;
 use matrix::elimination::take_row;
 use order::columns::column_count;
 use order::columns::is_column;
+use order::exponent_at;
 
 // Every byte becomes zero.
 fn clear_bytes(bytes: &mut [u8])
@@ -39,7 +38,7 @@ fn clear_bytes(bytes: &mut [u8])
 }
 
 // The exponents of the columns where `x` is one are marked.
-fn mark_columns(order: &[u16; 512], n: usize, d: usize, x: &[u64; 8], bytes: &mut [u8])
+fn mark_columns(order: &[u16], n: usize, d: usize, x: &[u64; 8], bytes: &mut [u8])
     requires { ⌜ Graded (now order) × (n ≤ 9) × (length (now x) ≡ 8) × (length (now bytes) ≡ 512) ⌝ }
     ensures { λ _. ⌜ now (bytes .exit) ≡ withOnes (chosen (unpack (now (x .entry))) (columnsOf (now (order .entry)) n d)) (now (bytes .entry)) ⌝ }
 {
@@ -47,10 +46,10 @@ fn mark_columns(order: &[u16; 512], n: usize, d: usize, x: &[u64; 8], bytes: &mu
     let mut count: usize = 0;
     let mut i: usize = 0;
     while i < POINTS {
-        let u = order[i];
-        if is_column(Exponent(u), points, d) {
+        let u = exponent_at(order, i);
+        if is_column(u, points, d) {
             if entry_at(x, count) {
-                bytes[u as usize] = 1;
+                bytes[u.0 as usize] = 1;
             }
             count += 1;
         }
@@ -82,7 +81,7 @@ fn keep_new(ws: &mut [u64], pivots: &mut [u16], set: &[u8], kept: usize, columns
 // of rows of the part.
 fn write_witness(
     ws: &mut [u64],
-    order: &[u16; 512],
+    order: &[u16],
     set: &[u8],
     part: &[u8],
     n: usize,
@@ -109,9 +108,9 @@ fn write_witness(
 }
 
 // The same, where `differs` tells whether some row of the set is no sum of rows of the part.
-fn write_side(
+pub fn write_side(
     ws: &mut [u64],
-    order: &[u16; 512],
+    order: &[u16],
     set: &[u8],
     part: &[u8],
     n: usize,
@@ -131,27 +130,4 @@ fn write_side(
         return;
     }
     clear_bytes(witness);
-}
-
-// The witnesses against the parts `p` and `q` of the set at degree `d`, where `r` are the ranks, are written.
-pub fn write_witnesses(
-    ws: &mut [u64],
-    order: &[u16; 512],
-    set: &[u8],
-    p: &[u8],
-    q: &[u8],
-    n: usize,
-    d: usize,
-    r: Ranks,
-    one: &mut [u8],
-    zero: &mut [u8],
-)
-    requires { ⌜ Ready (now order) n (now ws) (now set) (now p) (now q) × (d ≤ n) × (length (now one) ≡ 512) × (length (now zero) ≡ 512)
-        × (r .set ≡ r .one → newPoint (now order) n d (points (now set)) (points (now p)) ≡ none)
-        × (r .set ≡ r .zero → newPoint (now order) n d (points (now set)) (points (now q)) ≡ none) ⌝ }
-    ensures { λ _. ⌜ now (one .exit) ≡ mask (witnessAt (now (order .entry)) n d (points (now (set .entry))) (points (now (p .entry)))) ⌝ }
-    ensures { λ _. ⌜ now (zero .exit) ≡ mask (witnessAt (now (order .entry)) n d (points (now (set .entry))) (points (now (q .entry)))) ⌝ }
-{
-    write_side(ws, order, set, p, n, d, r.set != r.one, one);
-    write_side(ws, order, set, q, n, d, r.set != r.zero, zero);
 }

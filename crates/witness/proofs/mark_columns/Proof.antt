@@ -1,3 +1,4 @@
+-- The loop's invariant: what the bytes are to be is the bytes now, with the columns from place i on marked where x, from column `count` on, is one.
 use borrow.Author.Needs.{needs}
 use mathlib.Core.Path.{_≡_, refl, sym, ap, ap₂, _∙_}
 use mathlib.Core.Bool.{Bool, true, false, _&&_}
@@ -17,8 +18,8 @@ use Rattle.gf2.specs.Vector.{Row, entry, chosen}
 use Rattle.gf2.specs.Packed.{unpack}
 use Rattle.gf2.proofs.Words.{length-unpack}
 use Rattle.order.proofs.ColumnCount.{isColumn, laterColumns, columns-later}
-use Rattle.judge.proofs.witness.mark_columns.Statement.{statement}
-use Rattle.judge.proofs.witness.mark_columns.Tie as tie
+use Rattle.witness.proofs.mark_columns.Statement.{statement}
+use Rattle.witness.proofs.mark_columns.Tie as tie
 
 -- of nothing nothing is chosen
 chosen-nil : (v : Row) → chosen {A = ℕ} v [] ≡ []
@@ -70,46 +71,42 @@ abbrev μ-loop : tie.MeasureT-loop
 μ-loop order n d x bytes₀ points count₀ i₀ bytes count i = 512 - i
 
 loop-holds : tie.Need-loop-holds Inv-loop μ-loop
-loop-holds c = (omega arith, omega arith, c .before .before .pre .3, refl)
+loop-holds c = (omega arith, omega arith, c .before .before .before .pre .3, refl)
 
 entry-at-requires : tie.Need-entry-at-requires Inv-loop μ-loop
-entry-at-requires c κs = (c .before .before .before .before .before .before .before .pre .2, omega arith)
-
--- the exponent at place i is below 512
-inside : (c : tie.Then2 Inv-loop μ-loop) → let l = c .before .before .before .before .before .before in getD (l .before .before .before .args .order .now) (l .loop .i) 0 < 512
-inside c =
-    let l = c .before .before .before .before .before .before in
-    l .before .before .before .pre .0 .inside (l .loop .i) (omega arith)
-
-cast-bytes : tie.Need-cast-bytes Inv-loop μ-loop
-cast-bytes c = omega (arith, inside c)
+entry-at-requires c κs = (c .before .before .before .before .before .before .before .before .pre .2, omega arith)
 
 slice-write-bytes : tie.Need-slice-write-bytes Inv-loop μ-loop
-slice-write-bytes c = omega (arith, inside c)
+slice-write-bytes c =
+    let u = c .before .before .before .before .before in
+    let l = u .before .before in
+    omega (arith, u .exponent-at .ensures, l .before .before .before .before .pre .0 .inside (l .loop .i) (omega arith))
 
 loop-again : tie.Need-loop-again Inv-loop μ-loop
 loop-again c =
     let l = c .before .before .before .before in
-    let s = l .before .before .before in
+    let s = l .before .before .before .before in
     let o = s .args .order .now in
     let n = s .args .n in
     let d = s .args .d in
     let v = unpack (s .args .x .now) in
     let i = l .loop .i in
     let x = getD o i 0 in
+    let u : c .before .before .exponent-at .result .0 ≡ x = c .before .before .exponent-at .ensures in
     let long : length v ≡ 512 = length-unpack (s .args .x .now) ∙ ap (λ m. m * 64) (s .pre .2) in
     let column : c .before .is-column .result ≡ isColumn n d x = c .before .is-column .ensures
-    ∙ ap (λ m. ltb x m && leb (weight x) d) (l .before .size .ensures .0 (s .pre .1)) in
+    ∙ ap₂ (λ m y. ltb y m && leb (weight y) d) (l .before .size .ensures .0 (s .pre .1)) u in
     ⊎-elim
     (λ w.
     let e : isColumn n d x ≡ true = sym column ∙ w .0 .taken in
     ⊎-elim
-    (λ z. (
+    (λ z.
+    let stored = w .3 ∙ z .2 ∙ ap (λ y. set (l .loop .bytes) y 1) u in (
       omega arith,
       omega (arith, w .4),
-      ap length (w .3 ∙ z .1) ∙ length-set (l .loop .bytes) x 1 ∙ l .loop .inv .2,
+      ap length stored ∙ length-set (l .loop .bytes) x 1 ∙ l .loop .inv .2,
       l .loop .inv .3 ∙ one (s .pre .0) n d v (l .loop .count) i (l .loop .bytes) (omega arith) e (omega arith) (sym (z .0 .taken) ∙ w .1 .ensures)
-          ∙ sym (ap₂ (λ m b. marked o n d v m (i + 1) b) (w .4) (w .3 ∙ z .1)),
+          ∙ sym (ap₂ (λ m b. marked o n d v m (i + 1) b) (w .4) stored),
     ))
     (λ z. (
       omega arith,
@@ -131,7 +128,7 @@ loop-again c =
 returns : tie.Need-returns Inv-loop μ-loop
 returns c =
     let l = c .before in
-    let s = l .before .before .before in
+    let s = l .before .before .before .before in
     sym (l .loop .inv .3 ∙ marked-end (s .pre .0) (s .args .n) (s .args .d) (unpack (s .args .x .now)) (l .loop .count) (l .loop .i) (l .loop .bytes) (omega arith))
 
 pub mark-columns-spec : {M : Type 1} → statement M
@@ -142,11 +139,10 @@ mark-columns-spec =
     μ-loop
     (λ c κs. search needs)
     loop-holds
-    (λ c. omega arith)
-    (λ c. omega arith)
+    (λ c κs. search needs)
     (λ c κs. search needs)
     entry-at-requires
-    cast-bytes
+    (λ c. omega arith)
     slice-write-bytes
     (λ c. omega arith)
     (λ c. omega arith)

@@ -19,7 +19,7 @@ use Rattle.gf2.specs.Elimination.{isZero, reduce, keepUnless}
 use Rattle.gf2.specs.Packed.{rowOf, cut, oneMoreUnless}
 use Rattle.matrix.specs.Workspace.{stored, Takes}
 use Rattle.immunity.specs.First.{firstIf, first}
-use Rattle.judge.specs.NewRow.{isLeft, keptWith, FindsNew}
+use Rattle.witness.specs.NewRow.{isLeft, keptWith, FindsNew}
 
 -- the points of the mask below a were tried: the kept rows stay, and the first new point is among those from a on
 pub record Tried (t t′ : List Row) (k c : ℕ) (b : List ℕ) (a : ℕ) : Type 0 where
