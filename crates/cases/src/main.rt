@@ -1,5 +1,6 @@
 // Each argument names a filter file. The program writes the name of each and its sheet, one after the other.
 use libc::STDOUT_FILENO;
+use sheet_text::room::TEXT;
 
 // The name and the sheet of the file that argument `i` names.
 fn print_case(i: usize) {
@@ -13,7 +14,7 @@ fn print_case(i: usize) {
     let mut file = io::buffer();
     let n = io::read_full(fd, &mut file);
     libc::close(fd);
-    let mut text = [0u8; 2200000];
+    let mut text = [0u8; TEXT];
     let k = sheet_text::sheet::sheet(&file[..n], &mut text);
     io::write_all(STDOUT_FILENO, &path[..length]);
     io::write_all(STDOUT_FILENO, b"\n");

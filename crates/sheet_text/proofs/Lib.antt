@@ -1,6 +1,3 @@
--- Laws of texts in a buffer, of decimal digits, and of the sheet.
-pub mod Appending
-pub mod Decimals
-pub mod OutsideTo
+-- Laws of what is read and accepted while a sheet is made.
 pub mod ReadFilter
 pub mod SheetAccepts

@@ -1,5 +1,5 @@
 -- The filter that Read finds in a file.
---   Filter o n s f   the outcome o of Read accepts n, and leaves the set s and the table f
+--   ReadAs o n s f   the outcome o of Read accepts n, and leaves the set s and the table f
 --   filter-judged    Judge accepts it
 --   filter-sheet     its sheet is that of the file
 --   read-filter      what an acceptance by Read shows
@@ -7,67 +7,43 @@
 --   refused-sheet    the sheet of a file that is refused
 use mathlib.Core.Path.{_≡_, refl, sym, ap, _∙_}
 use mathlib.Core.List.{List, [], _∷_}
-use Prim.Native.Nat.{ℕ, suc, _≤_, _<_}
+use Prim.Native.Nat.{ℕ, suc, _<_}
 use native.Mathlib.Omega.{arith}
 use lib.ListN.{length, getD}
 use Rattle.refusal.specs.Refusal.{numberOf}
 use Rattle.refusal.specs.Outcome.{Outcome, refused, accepted, leftBy}
 use Rattle.refusal.specs.declared.Refusal.{Refusal}
-use Rattle.cube.specs.NumberLists.{lists, isEmpty}
-use Rattle.cube.specs.Cube.{size}
+use Rattle.cube.specs.NumberLists.{lists}
 use Rattle.cube.specs.Mask.{mask}
 use Rattle.order.specs.BuiltIn.{graded}
-use Rattle.filter_file.specs.declared.read.Reading.{Reading}
-use Rattle.filter_file.specs.declared.read.Reading.the-variants.{Read, Refused}
-use Rattle.filter_file.specs.File.{Contents, Valid}
+use Rattle.filter_file.specs.declared.read.ReadAnswer.{ReadAnswer}
+use Rattle.filter_file.specs.declared.read.ReadAnswer.the-variants.{Accepted, Refused}
+use Rattle.filter_file.specs.File.{Contents}
 use Rattle.varint.specs.Varint.{Bytes}
-use Rattle.filter_file.specs.Read.{readOutcome, nOf, outcomeOf, Reads}
+use Rattle.filter_file.specs.Read.{readOutcome, nOf, outcomeOf, ReadContract}
 use Rattle.immunity.specs.Judgement.{judged}
 use Rattle.judge.specs.Judge.{JudgeAccepts}
-use Rattle.judge.proofs.Passed.{Passed, judge-accepts}
+use Rattle.judge.proofs.Passed.{judge-accepts}
 use Rattle.filter_file.proofs.Decoded.{contents-decoded}
-use Rattle.filter_file.proofs.ListMasks.{points-listed, listed-formed}
-use Rattle.cube.proofs.MaskOf.{length-mask}
-use Rattle.cube.proofs.Taps.{taps-range}
-use lib.Pow.{pow-mono}
-use mathlib.Core.Bool.{false}
-use Rattle.sheet_text.specs.Sheet.{refusedLine, filterSheet, sheetOf, sheet}
+use Rattle.filter_file.proofs.ValidFilter.{valid-filter, valid-some}
+use Rattle.sheet_lines.specs.Lines.{refusedLine}
+use Rattle.sheet_text.specs.Sheet.{filterSheet, sheetOf, sheet}
 
 -- a list of bytes
 bytes-at : (xs : List ℕ) → ((i : ℕ) → i < length xs → getD xs i 0 < 256) → Bytes xs
 bytes-at [] h = tt
 bytes-at (x ∷ xs) h = (h 0 (omega arith), bytes-at xs (λ i l. h (suc i) (omega arith)))
 
--- N is at most 512
-pub size-small : {c : Contents} → Valid c → size (c .n) ≤ 512
-size-small {c} v = omega (arith, pow-mono (taps-range (c .n) .0 (v .tapped) .1))
-
--- a list that has a member is not empty
-some-listed : (ps : List ℕ) → 1 ≤ length ps → isEmpty ps ≡ false
-unfolding isEmpty
-some-listed [] l = absurd (omega arith)
-some-listed (p ∷ ps) l = refl
-
--- what obeys the rules has passed Judge's checks
-pub valid-passed : {c : Contents} → Valid c → Passed (c .n) (mask (lists (c .set))) (mask (lists (c .table)))
-valid-passed {c} v = record {
-  set-long = length-mask (lists (c .set));
-  table-long = length-mask (lists (c .table));
-  tapped = v .tapped;
-  set-formed = listed-formed (c .n) (c .set) (v .set);
-  table-formed = listed-formed (c .n) (c .table) (v .table);
-  some = ap isEmpty (points-listed (size (c .n)) (c .set) (size-small v) (v .set)) ∙ some-listed (c .set) (v .some);
-}
-
 -- what Read accepts, Judge accepts
 read-judge : (file : List ℕ) (c : Contents) → ((i : ℕ) → i < length file → getD file i 0 < 256) → readOutcome 512 512 file ≡ accepted c
-    → let s : List ℕ = mask (lists (c .set)) in let f : List ℕ = mask (lists (c .table)) in JudgeAccepts (c .n) s f (judged graded (c .n) s f)
+    → let s : List ℕ = mask (lists (c .set)) in let f : List ℕ = mask (lists (c .table)) in JudgeAccepts graded (c .n) s f (judged graded (c .n) s f)
 unfolding readOutcome
 read-judge file c b e =
-    judge-accepts (c .n) (mask (lists (c .set))) (mask (lists (c .table))) (valid-passed (contents-decoded file (bytes-at file b) e .1))
+    let valid = contents-decoded file (bytes-at file b) e .1 in
+    judge-accepts graded (c .n) (mask (lists (c .set))) (mask (lists (c .table))) (valid-filter valid) (valid-some valid)
 
 -- the outcome of Read accepts n, and leaves the set s and the table f
-pub record Filter (o : Outcome Contents) (n : ℕ) (s f : List ℕ) : Type 0 where
+pub record ReadAs (o : Outcome Contents) (n : ℕ) (s f : List ℕ) : Type 0 where
   pub contents : Contents
   pub is : o ≡ accepted contents
   pub n-is : n ≡ contents .n
@@ -75,20 +51,20 @@ pub record Filter (o : Outcome Contents) (n : ℕ) (s f : List ℕ) : Type 0 whe
   pub table-is : f ≡ mask (lists (contents .table))
 
 -- Judge accepts it
-pub filter-judged : (file : List ℕ) (n : ℕ) (s f : List ℕ) → Filter (readOutcome 512 512 file) n s f → ((i : ℕ) → i < length file → getD file i 0 < 256)
-    → JudgeAccepts n s f (judged graded n s f)
+pub filter-judged : (file : List ℕ) (n : ℕ) (s f : List ℕ) → ReadAs (readOutcome 512 512 file) n s f → ((i : ℕ) → i < length file → getD file i 0 < 256)
+    → JudgeAccepts graded n s f (judged graded n s f)
 filter-judged file n s f x b = rw (x .n-is, x .set-is, x .table-is) (read-judge file (x .contents) b (x .is))
 
 -- its sheet is that of the file
-pub filter-sheet : (file : List ℕ) (n : ℕ) (s f : List ℕ) → Filter (readOutcome 512 512 file) n s f → filterSheet n s f ≡ sheet file
+pub filter-sheet : (file : List ℕ) (n : ℕ) (s f : List ℕ) → ReadAs (readOutcome 512 512 file) n s f → filterSheet n s f ≡ sheet file
 unfolding sheet
 filter-sheet file n s f x = rw (x .n-is, x .set-is, x .table-is) (sym (ap sheetOf (x .is)))
 
 -- what an acceptance by Read shows
-pub read-filter : (o : Outcome Contents) (r : Reading) (s₀ s f₀ f : List ℕ) → Reads o r s₀ s f₀ f → (n : ℕ) → r ≡ Read n → Filter o n s f
+pub read-filter : (o : Outcome Contents) (r : ReadAnswer) (s₀ s f₀ f : List ℕ) → ReadContract o r s₀ s f₀ f → (n : ℕ) → r ≡ Accepted n → ReadAs o n s f
 read-filter o r s₀ s f₀ f h n e = go o refl
   where
-    go : (x : Outcome Contents) → o ≡ x → Filter o n s f
+    go : (x : Outcome Contents) → o ≡ x → ReadAs o n s f
     go (refused k) q =
         let z : _≡_ {A = ℕ} 0 1 = ap (λ y. leftBy y 0 (λ m. 1)) (sym (ap nOf q) ∙ sym (h .answer) ∙ ap outcomeOf e) in
         absurd (omega arith)
@@ -101,7 +77,7 @@ read-filter o r s₀ s f₀ f h n e = go o refl
     }
 
 -- what a refusal shows
-pub read-refused : (o : Outcome Contents) (r : Reading) (s₀ s f₀ f : List ℕ) → Reads o r s₀ s f₀ f → (x : Refusal) → r ≡ Refused x → o ≡ refused (numberOf x)
+pub read-refused : (o : Outcome Contents) (r : ReadAnswer) (s₀ s f₀ f : List ℕ) → ReadContract o r s₀ s f₀ f → (x : Refusal) → r ≡ Refused x → o ≡ refused (numberOf x)
 read-refused o r s₀ s f₀ f h x e = go o refl
   where
     go : (y : Outcome Contents) → o ≡ y → o ≡ refused (numberOf x)

@@ -1,3 +1,2 @@
--- Texts as bytes, and the printed sheet of document 01.
+-- The printed sheet.
 pub mod Sheet
-pub mod Text

@@ -1,5 +1,5 @@
-// The printed sheet as text in a lent buffer: document 01, 'Printed sheet'.
+// The printed sheet as text in a lent buffer: docs/SPECIFICATION.md, 'Sheet'.
 
-mod text; // text.rt: bytes, numbers and fields
-mod lines; // lines.rt: the lines of the sheet
 pub mod sheet; // sheet.rt: the sheet of a file
+
+pub use sheet_lines::room; // sheet_lines/src/room.rt: room in the sheet

@@ -6,30 +6,34 @@ ghost use Rattle.order.specs.BuiltIn.{graded};
 ghost use Rattle.io.specs.Counts.{Counts};
 ghost use Rattle.immunity.specs.Judgement.{judged};
 ghost use Rattle.immunity.specs.Certificate.{certificate as certificateOf};
-ghost use Rattle.hand_over.specs.HandOver.{ofSide};
+ghost use Rattle.filter.specs.Sides.{pair, ofSide};
 ghost use Rattle.judge.specs.Judge.{JudgeAccepts};
 ghost use Rattle.certify.specs.Certify.{CertifyAccepts};
-ghost use Rattle.sheet_text.specs.Text.{Appends};
-ghost use Rattle.sheet_text.specs.Sheet.{degreeLine, sideSums, sums, filterSheet, sheet as sheetOf};
-use crate::lines::additions_line;
-use crate::lines::degree_line;
-use crate::lines::first_line;
-use crate::lines::rank_lines;
-use crate::lines::refused_line;
-use crate::lines::sum_lines;
+ghost use Rattle.text.specs.Room.{fieldRoom};
+ghost use Rattle.text.specs.Text.{Appends};
+ghost use Rattle.sheet_lines.specs.Room.{degreeLineRoom, sideSumsRoom, sumsRoom, textRoom};
+ghost use Rattle.sheet_lines.specs.Lines.{degreeLine};
+ghost use Rattle.sheet_text.specs.Sheet.{sideSums, sums, filterSheet, sheet as sheetOf};
 use certify::CERTIFICATE;
 use certify::certify;
 use cube::POINTS;
 use cube::mask::count;
-use filter_file::read::Reading;
+use filter_file::read::ReadAnswer;
 use filter_file::read::read;
 use gf2::WORKSPACE;
 use judge::Finding;
 use judge::judge;
 use refusal::number;
+use sheet_lines::lines::additions_line;
+use sheet_lines::lines::degree_line;
+use sheet_lines::lines::first_line;
+use sheet_lines::lines::rank_lines;
+use sheet_lines::lines::refused_line;
+use sheet_lines::lines::sum_lines;
+use sheet_lines::room::TEXT;
 
 // The sheet of the file is written at the front of the text. The result is its length.
-pub fn sheet(file: &[u8], text: &mut [u8; 2200000]) -> usize
+pub fn sheet(file: &[u8], text: &mut [u8; TEXT]) -> usize
     ensures { λ r. ⌜ Counts r (now (text .exit)) ⌝ }
     ensures { λ r. ⌜ take r (now (text .exit)) ≡ sheetOf (now (file .entry)) ⌝ }
 {
@@ -37,14 +41,14 @@ pub fn sheet(file: &[u8], text: &mut [u8; 2200000]) -> usize
     let mut table = [0u8; POINTS];
     let reading = read(file, &mut set, &mut table);
     match reading {
-        Reading::Refused(x) => refused_line(text, 0, number(x)),
-        Reading::Read(n) => filter_sheet(text, n, &set, &table),
+        ReadAnswer::Refused(x) => refused_line(text, 0, number(x)),
+        ReadAnswer::Accepted(n) => filter_sheet(text, n, &set, &table),
     }
 }
 
 // The sheet of a filter that Judge accepts.
 fn filter_sheet(text: &mut [u8], n: usize, set: &[u8], table: &[u8]) -> usize
-    requires { ⌜ (2200000 ≤ length (now text)) × JudgeAccepts n (now set) (now table) (judged graded n (now set) (now table)) ⌝ }
+    requires { ⌜ (textRoom ≤ length (now text)) × JudgeAccepts graded n (now set) (now table) (judged graded n (now set) (now table)) ⌝ }
     ensures { λ r. ⌜ Appends (filterSheet n (now (set .entry)) (now (table .entry))) (now (text .entry)) (now (text .exit)) 0 r ⌝ }
 {
     let mut workspace = [0u64; WORKSPACE];
@@ -55,24 +59,20 @@ fn filter_sheet(text: &mut [u8], n: usize, set: &[u8], table: &[u8]) -> usize
     let ranks = answer.ranks;
     match finding {
         Finding::Refused(x) => refused_line(text, 0, number(x)),
-        Finding::Judged {
-            degree,
-            side,
-            additions,
-        } => {
+        Finding::Judged(found) => {
             let first = first_line(text, 0, n, count(set));
             let report = rank_lines(text, first, n, ranks);
-            let of_sums = report_line(text, report, degree, side, &one, &zero);
-            let end = sum_sections(text, of_sums, n, set, table, degree);
-            additions_line(text, end, additions)
+            let of_sums = report_line(text, report, found.degree, found.side, &one, &zero);
+            let end = sum_sections(text, of_sums, n, set, table, found.degree);
+            additions_line(text, end, found.additions)
         }
     }
 }
 
 // The degree line, with the witness of the side.
 fn report_line(text: &mut [u8], at: usize, k: usize, side: u8, one: &[u8], zero: &[u8]) -> usize
-    requires { ⌜ (at + 2131 ≤ length (now text)) × (length (now one) ≡ 512) × (length (now zero) ≡ 512) ⌝ }
-    ensures { λ r. ⌜ Appends (degreeLine k side (ofSide side (now (one .entry)) (now (zero .entry)))) (now (text .entry)) (now (text .exit)) at r × (r ≤ at + 2110) ⌝ }
+    requires { ⌜ (at + degreeLineRoom + fieldRoom ≤ length (now text)) × (length (now one) ≡ 512) × (length (now zero) ≡ 512) ⌝ }
+    ensures { λ r. ⌜ Appends (degreeLine k side (ofSide side (pair (now (one .entry)) (now (zero .entry))))) (now (text .entry)) (now (text .exit)) at r × (r ≤ at + degreeLineRoom) ⌝ }
 {
     if side == 1 {
         return degree_line(text, at, k, side, one);
@@ -82,9 +82,9 @@ fn report_line(text: &mut [u8], at: usize, k: usize, side: u8, one: &[u8], zero:
 
 // The sums of the certificates of degree k - 1, side 1 then side 0; none if k is 0.
 fn sum_sections(text: &mut [u8], at: usize, n: usize, set: &[u8], table: &[u8], k: usize) -> usize
-    requires { ⌜ (at + 2155541 ≤ length (now text)) × (length (now set) ≡ 512) × (length (now table) ≡ 512)
-        × ((d side : ℕ) → d < k → side ≤ 1 → CertifyAccepts n (now set) (now table) side d (certificateOf graded n (now set) (now table) side d)) ⌝ }
-    ensures { λ r. ⌜ Appends (sums n (now (set .entry)) (now (table .entry)) k) (now (text .entry)) (now (text .exit)) at r × (r ≤ at + 2155520) ⌝ }
+    requires { ⌜ (at + sumsRoom + fieldRoom ≤ length (now text)) × (length (now set) ≡ 512) × (length (now table) ≡ 512)
+        × ((d side : ℕ) → d < k → side ≤ 1 → CertifyAccepts graded n (now set) (now table) side d (certificateOf graded n (now set) (now table) side d)) ⌝ }
+    ensures { λ r. ⌜ Appends (sums n (now (set .entry)) (now (table .entry)) k) (now (text .entry)) (now (text .exit)) at r × (r ≤ at + sumsRoom) ⌝ }
 {
     if k == 0 {
         return at;
@@ -103,9 +103,9 @@ fn side_sums(
     side: u8,
     d: usize,
 ) -> usize
-    requires { ⌜ (at + 1077781 ≤ length (now text)) × (length (now set) ≡ 512) × (length (now table) ≡ 512)
-        × CertifyAccepts n (now set) (now table) side d (certificateOf graded n (now set) (now table) side d) ⌝ }
-    ensures { λ r. ⌜ Appends (sideSums n (now (set .entry)) (now (table .entry)) d side) (now (text .entry)) (now (text .exit)) at r × (r ≤ at + 1077760) ⌝ }
+    requires { ⌜ (at + sideSumsRoom + fieldRoom ≤ length (now text)) × (length (now set) ≡ 512) × (length (now table) ≡ 512)
+        × CertifyAccepts graded n (now set) (now table) side d (certificateOf graded n (now set) (now table) side d) ⌝ }
+    ensures { λ r. ⌜ Appends (sideSums n (now (set .entry)) (now (table .entry)) d side) (now (text .entry)) (now (text .exit)) at r × (r ≤ at + sideSumsRoom) ⌝ }
 {
     let mut workspace = [0u64; WORKSPACE];
     let mut certificate = [0u64; CERTIFICATE];

@@ -1,38 +1,42 @@
+-- What Judge answers is the judgement (judge-found), never a refusal; the lines are written one behind the other (appends-then), each within its room.
 use borrow.Author.Needs.{needs}
-use mathlib.Core.Path.{_≡_, sym, ap}
+use mathlib.Core.Path.{_≡_, sym, ap, _∙_}
 use mathlib.Core.Option.{some}
 use Prim.Native.Nat.{ℕ, _≤_}
 use native.Mathlib.Omega.{arith}
 use lib.ListN.{length, length-replicate}
 use Rattle.cube.specs.Mask.{points}
 use Rattle.order.specs.BuiltIn.{graded}
-use Rattle.cube.proofs.Taps.{taps-range}
+use Rattle.filter.specs.Sides.{pair}
+use Rattle.filter.specs.Filter.{Filter}
+use Rattle.filter.proofs.Filters.{few-taps}
 use Rattle.immunity.specs.Judgement.{Judgement, judged}
-use Rattle.judge.proofs.Passed.{Passed, judge-passed}
-use Rattle.sheet_text.specs.Text.{Appends}
-use Rattle.sheet_text.specs.Sheet.{firstLine, judgementSheet}
-use Rattle.sheet_text.proofs.Appending.{appends-then, appends-same}
+use Rattle.judge.proofs.Passed.{judge-accepted}
+use Rattle.text.specs.Text.{Appends}
+use Rattle.sheet_lines.specs.Lines.{firstLine}
+use Rattle.sheet_text.specs.Sheet.{judgementSheet}
+use Rattle.text.proofs.Appending.{appends-then, appends-same}
 use Rattle.sheet_text.proofs.SheetAccepts.{judge-found, judge-refuses, sums-accepted}
 use Rattle.sheet_text.proofs.sheet.filter_sheet.Statement.{statement}
 use Rattle.sheet_text.proofs.sheet.filter_sheet.Tie as tie
 
 -- what Judge has checked
-passed : (c : tie.Start) → Passed (c .args .n) (c .args .set .now) (c .args .table .now)
-passed c = judge-passed (c .args .n) (c .args .set .now) (c .args .table .now) (judged graded (c .args .n) (c .args .set .now) (c .args .table .now)) (c .pre .1) .0
+filter : (c : tie.Start) → Filter (c .args .n) (c .args .set .now) (c .args .table .now)
+filter c = judge-accepted graded (c .args .n) (c .args .set .now) (c .args .table .now) (judged graded (c .args .n) (c .args .set .now) (c .args .table .now)) (c .pre .1) .0
 
 -- the number of taps
 small : (c : tie.Start) → c .args .n ≤ 9
-small c = taps-range (c .args .n) .0 (passed c .tapped) .1
+small c = few-taps _ _ _ (filter c)
 
 -- what Judge found is the judgement
-judgement : (c : tie.After-finding2) → let j = c .before .before .before .before .before .before in let s = j .before .before .before .before .before .before .before in let v = c .finding2 .given .0 in
-    record { ranks = j .judge .result .ranks; degree = some (v .0); side = v .1 .0; additions = v .1 .1 .0; one = j .judge .last .1 .1 .1 .1 .0; zero = j .judge .last .1 .1 .1 .1 .1 .0 }
+judgement : (c : tie.After-finding2) → let j = c .before .before .before .before .before .before in let s = j .before .before .before .before .before .before .before in let v = c .finding2 .given .0 .0 in
+    record { ranks = j .judge .result .ranks; degree = some (v .degree); side = v .side; additions = v .additions; witnesses = pair (j .judge .last .1 .1 .1 .1 .0) (j .judge .last .1 .1 .1 .1 .1 .0) }
     ≡ judged graded (s .args .n) (s .args .set .now) (s .args .table .now)
 judgement c =
     let j = c .before .before .before .before .before .before in
     let s = j .before .before .before .before .before .before .before in
-    judge-found (s .args .n) (s .args .set .now) (s .args .table .now) (s .pre .1) _ _ _ _ _ _ (j .judge .result) (j .judge .ensures)
-    (length-replicate {A = ℕ} 8192 0) (length-replicate {A = ℕ} 512 0) (length-replicate {A = ℕ} 512 0) _ _ _ (c .finding2 .given .1)
+    judge-found (s .args .n) (s .args .set .now) (s .args .table .now) (s .pre .1) (length-replicate {A = ℕ} 8192 0) (length-replicate {A = ℕ} 512 0) (length-replicate {A = ℕ} 512 0)
+    (j .judge .ensures) (c .finding2 .given .0 .0) (c .finding2 .given .1)
 
 first-line-requires : tie.Need-first-line-requires
 first-line-requires c κs =
@@ -45,6 +49,14 @@ rank-lines-requires c κs =
     let s = f .before .before .before .before .before .before .before .before .before .before .before .before .before .before .before .before .before in
     (omega (arith, f .first-line .ensures .1, f .first-line .ensures .0 .long, s .pre .0), small s)
 
+report-line-requires : tie.Need-report-line-requires
+report-line-requires c κs =
+    let r = c .before .before .before .before .before in
+    let f = r .before .before .before .before in
+    let j = f .before .before .before .before .before .before .before .before .before .before in
+    let s = j .before .before .before .before .before .before .before in
+    (omega (arith, r .rank-lines .ensures .1, r .rank-lines .ensures .0 .long, f .first-line .ensures .1, f .first-line .ensures .0 .long, s .pre .0), j .judge .kept .1 .1 .1 .1 .0 ∙ length-replicate {A = ℕ} 512 0, j .judge .kept .1 .1 .1 .1 .1 .0 ∙ length-replicate {A = ℕ} 512 0)
+
 sum-sections-requires : tie.Need-sum-sections-requires
 sum-sections-requires c κs =
     let d = c .before .before .before in
@@ -53,8 +65,8 @@ sum-sections-requires c κs =
     let g = f .before .before .before .before in
     let s = g .before .before .before .before .before .before .before .before .before .before .before .before .before in (
       omega (arith, d .report-line .ensures .1, d .report-line .ensures .0 .long, r .rank-lines .ensures .1, r .rank-lines .ensures .0 .long, f .first-line .ensures .1, f .first-line .ensures .0 .long, s .pre .0),
-      passed s .set-long,
-      passed s .table-long,
+      filter s .set-long,
+      filter s .table-long,
       sums-accepted (s .args .n) (s .args .set .now) (s .args .table .now) (s .pre .1) _ (sym (ap (λ (j : Judgement). j .degree) (judgement g))),
     )
 
@@ -72,8 +84,8 @@ returns c =
     let g = c .before .before .before .before .before .before in
     let j = g .before .before .before .before .before .before in
     let s = j .before .before .before .before .before .before .before in
-    absurd (judge-refuses (s .args .n) (s .args .set .now) (s .args .table .now) (s .pre .1) _ _ _ _ _ _ (j .judge .result) (j .judge .ensures)
-    (length-replicate {A = ℕ} 8192 0) (length-replicate {A = ℕ} 512 0) (length-replicate {A = ℕ} 512 0) _ (g .finding .given .1))
+    absurd (judge-refuses (s .args .n) (s .args .set .now) (s .args .table .now) (s .pre .1) (length-replicate {A = ℕ} 8192 0) (length-replicate {A = ℕ} 512 0) (length-replicate {A = ℕ} 512 0)
+    (j .judge .ensures) _ (g .finding .given .1))
 
 returns-2 : tie.Need-returns-2
 unfolding judgementSheet
@@ -108,7 +120,7 @@ filter-sheet-spec =
     rank-lines-requires
     (λ c. search needs)
     (λ c. search needs)
-    (λ c κs. search needs)
+    report-line-requires
     sum-sections-requires
     additions-line-requires
     (λ c. search needs)

@@ -1,3 +1,4 @@
+-- A text appended at place 0 is the front of the buffer (front): the refusal's line, or the sheet of the filter that Read found, which Judge accepts.
 use borrow.Author.Needs.{needs}
 use mathlib.Core.Path.{_≡_, sym, ap, _∙_, subst₂}
 use mathlib.Core.List.{List}
@@ -9,9 +10,9 @@ use Rattle.refusal.specs.Refusal.{numberOf}
 use Rattle.refusal.specs.Outcome.{refused}
 use Rattle.io.specs.Counts.{Counts}
 use Rattle.filter_file.specs.Read.{readOutcome}
-use Rattle.sheet_text.specs.Text.{Appends}
+use Rattle.text.specs.Text.{Appends}
 use Rattle.sheet_text.specs.Sheet.{sheet}
-use Rattle.sheet_text.proofs.ReadFilter.{Filter, filter-judged, filter-sheet, read-filter, read-refused, refused-sheet}
+use Rattle.sheet_text.proofs.ReadFilter.{ReadAs, filter-judged, filter-sheet, read-filter, read-refused, refused-sheet}
 use Rattle.sheet_text.proofs.sheet.sheet.Statement.{statement}
 use Rattle.sheet_text.proofs.sheet.sheet.Tie as tie
 
@@ -24,11 +25,11 @@ front bs t t′ r h file e =
 
 -- the filter that is read
 read-found : (c : tie.After-reading2) → let r = c .before .before .before .before in
-    Filter (readOutcome 512 512 (r .before .before .before .before .args .file .now)) (c .reading2 .given .0 .0) (r .read .last .1 .0) (r .read .last .1 .1 .0)
+    ReadAs (readOutcome 512 512 (r .before .before .before .before .args .file .now)) (c .reading2 .given .0 .0) (r .read .last .1 .0) (r .read .last .1 .1 .0)
 read-found c =
     let r = c .before .before .before .before in
     let a = r .before .before .before .before .args in
-    subst₂ (λ k l. Filter (readOutcome k l (a .file .now)) (c .reading2 .given .0 .0) (r .read .last .1 .0) (r .read .last .1 .1 .0))
+    subst₂ (λ k l. ReadAs (readOutcome k l (a .file .now)) (c .reading2 .given .0 .0) (r .read .last .1 .0) (r .read .last .1 .1 .0))
     (length-replicate {A = ℕ} 512 0) (length-replicate {A = ℕ} 512 0) (read-filter _ (r .read .result) _ _ _ _ (r .read .ensures) _ (c .reading2 .given .1))
 
 filter-sheet-requires : tie.Need-filter-sheet-requires

@@ -1,0 +1,23 @@
+use borrow.Author.Needs.{needs}
+use native.Mathlib.Omega.{arith}
+use Rattle.text.specs.Text.{ascii}
+use Rattle.text.proofs.Appending.{appends-then}
+use Rattle.sheet_lines.proofs.lines.additions_line.Statement.{statement}
+use Rattle.sheet_lines.proofs.lines.additions_line.Tie as tie
+
+returns : tie.Need-returns
+unfolding ascii
+returns c =
+    let e = c .before .before in
+    let done = appends-then (e .before .before .before .before .append-labelled .ensures .0) (e .end-line .ensures) in
+    (done, omega arith)
+
+pub additions-line-spec : {M : Type 1} → statement M
+additions-line-spec =
+    tie.close
+    (tie.spec
+    (λ c. search needs)
+    (λ c κs. search needs)
+    (λ c κs. search needs)
+    (λ c. search needs)
+    returns)

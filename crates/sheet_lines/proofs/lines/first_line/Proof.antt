@@ -1,0 +1,32 @@
+use borrow.Author.Needs.{needs}
+use native.Mathlib.Omega.{arith}
+use Rattle.text.specs.Text.{ascii}
+use Rattle.text.proofs.Appending.{appends-then}
+use Rattle.sheet_lines.proofs.lines.first_line.Statement.{statement}
+use Rattle.sheet_lines.proofs.lines.first_line.Tie as tie
+
+returns : tie.Need-returns
+unfolding ascii
+returns c =
+    let e = c .before .before in
+    let m = e .before .before .before .before in
+    let p = m .before .before .before .before .before in
+    let n = p .before .before .before .before .before in (
+      appends-then (appends-then (appends-then (n .append-labelled .ensures .0) (p .append-labelled2 .ensures .0)) (m .append-labelled3 .ensures .0)) (e .end-line .ensures),
+      omega arith,
+    )
+
+pub first-line-spec : {M : Type 1} → statement M
+first-line-spec =
+    tie.close
+    (tie.spec
+    (λ c. search needs)
+    (λ c κs. search needs)
+    (λ c. search needs)
+    (λ c κs. search needs)
+    (λ c. search needs)
+    (λ c. search needs)
+    (λ c κs. search needs)
+    (λ c κs. search needs)
+    (λ c. search needs)
+    returns)

@@ -1,0 +1,57 @@
+-- The lines of the printed sheet.
+--   mark n                  n / 2 rounded up, the best degree there is
+--   refusedLine k           the line for a refusal
+--   firstLine n m           n, the number m of points of S, and the mark
+--   rankLine d r            a degree, and the ranks of S, part 1 and part 0
+--   rankLines n rs          the rank lines, for each degree up to n
+--   degreeLine k side w     the reported degree, the side, and that side's witness, its exponents in graded order
+--   sumLine side a qs       a side, a point, and points whose rows sum to its row
+--   sumLines side c ps      the sums that a certificate states for points, rising within a sum
+--   additionsLine m         Judge's additions
+use mathlib.Core.List.{List, _++_}
+use Prim.Native.Nat.{ℕ, _+_, _/_}
+use lib.ListN.{getD}
+use Rattle.cube.specs.NumberLists.{below, select}
+use Rattle.cube.specs.Mask.{member}
+use Rattle.order.specs.BuiltIn.{graded}
+use Rattle.immunity.specs.declared.Ranks.{Ranks}
+use Rattle.immunity.specs.Ranks.{noRanks}
+use Rattle.immunity.specs.Certificate.{bitOf}
+use Rattle.text.specs.Text.{Text, ascii, newline, decimal, field, labelled, joined, fields}
+
+-- n / 2 rounded up
+abbrev pub mark : ℕ → ℕ
+mark n = (n + 1) / 2
+
+-- the line for a refusal
+abbrev pub refusedLine : ℕ → Text
+refusedLine k = labelled "refused" k ++ newline
+
+-- n, the number of points of S, and the mark
+abbrev pub firstLine : ℕ → ℕ → Text
+firstLine n m = labelled "n" n ++ labelled " points" m ++ labelled " mark" (mark n) ++ newline
+
+-- a degree, and the ranks of S, part 1 and part 0
+abbrev pub rankLine : ℕ → Ranks → Text
+rankLine d r = decimal d ++ field (r .set) ++ field (r .one) ++ field (r .zero) ++ newline
+
+-- for each degree up to n
+abbrev pub rankLines : ℕ → List Ranks → Text
+rankLines n rs = joined (λ d. rankLine d (getD rs d noRanks)) (below (n + 1))
+
+-- the reported degree, the side, and the exponents of a witness in graded order
+abbrev pub degreeLine : ℕ → ℕ → List ℕ → Text
+degreeLine k side w =
+    labelled "degree" k ++ labelled " side" side ++ ascii " witness" ++ fields (select (member w) graded) ++ newline
+
+-- the points whose rows sum to the row of a
+abbrev pub sumLine : ℕ → ℕ → List ℕ → Text
+sumLine side a qs = labelled "side" side ++ labelled " point" a ++ ascii " sum" ++ fields qs ++ newline
+
+-- the sums that a certificate states for points
+abbrev pub sumLines : ℕ → List ℕ → List ℕ → Text
+sumLines side c ps = joined (λ a. sumLine side a (select (bitOf c a) (below 512))) ps
+
+-- Judge's additions
+abbrev pub additionsLine : ℕ → Text
+additionsLine m = labelled "additions" m ++ newline

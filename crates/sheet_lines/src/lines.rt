@@ -1,0 +1,173 @@
+// The lines of the sheet.
+ghost use mathlib.Core.Path.{_≡_};
+ghost use Prim.Native.Nat.{_+_, _≤_, _<_};
+ghost use lib.ListN.{length};
+ghost use Rattle.cube.specs.NumberLists.{below, select};
+ghost use Rattle.cube.specs.Mask.{member, points};
+ghost use Rattle.order.specs.BuiltIn.{graded};
+ghost use Rattle.filter.specs.Part.{part};
+ghost use Rattle.filter.specs.Outside.{outside};
+ghost use Rattle.immunity.specs.Certificate.{bitOf};
+ghost use Rattle.text.specs.Room.{fieldRoom};
+ghost use Rattle.text.specs.Text.{fields, Appends};
+ghost use Rattle.sheet_lines.specs.Room.{chosenRoom, refusedLineRoom, firstLineRoom, rankLineRoom, rankLinesRoom, degreeLineRoom, sumLineRoom, sideSumsRoom, additionsLineRoom};
+ghost use Rattle.sheet_lines.specs.Lines.{refusedLine, firstLine, rankLine, rankLines, degreeLine, sumLine, sumLines, additionsLine};
+use cube::POINTS;
+use immunity::Ranks;
+use order::exponent_at;
+use order::graded_order;
+use text::append_decimal;
+use text::append_field;
+use text::append_heading;
+use text::append_labelled;
+use text::end_line;
+
+// The line for a refusal.
+pub fn refused_line(text: &mut [u8], at: usize, number: u8) -> usize
+    requires { ⌜ at + refusedLineRoom ≤ length (now text) ⌝ }
+    ensures { λ r. ⌜ Appends (refusedLine number) (now (text .entry)) (now (text .exit)) at r ⌝ }
+{
+    let end = append_labelled(text, at, b"refused", number as u64);
+    end_line(text, end)
+}
+
+// The number of taps, of points, and the mark.
+pub fn first_line(text: &mut [u8], at: usize, n: usize, count: usize) -> usize
+    requires { ⌜ (at + firstLineRoom ≤ length (now text)) × (n ≤ 9) ⌝ }
+    ensures { λ r. ⌜ Appends (firstLine n count) (now (text .entry)) (now (text .exit)) at r × (r ≤ at + firstLineRoom) ⌝ }
+{
+    let points = append_labelled(text, at, b"n", n as u64);
+    let mark = append_labelled(text, points, b" points", count as u64);
+    let end = append_labelled(text, mark, b" mark", ((n + 1) / 2) as u64);
+    end_line(text, end)
+}
+
+// A degree, and the ranks of the set, of part 1 and of part 0.
+pub fn rank_line(text: &mut [u8], at: usize, d: usize, ranks: Ranks) -> usize
+    requires { ⌜ at + rankLineRoom ≤ length (now text) ⌝ }
+    ensures { λ r. ⌜ Appends (rankLine d ranks) (now (text .entry)) (now (text .exit)) at r × (r ≤ at + rankLineRoom) ⌝ }
+{
+    let set = append_decimal(text, at, d as u64);
+    let one = append_field(text, set, ranks.set as u64);
+    let zero = append_field(text, one, ranks.one as u64);
+    let end = append_field(text, zero, ranks.zero as u64);
+    end_line(text, end)
+}
+
+// A rank line for each degree up to `n`.
+pub fn rank_lines(text: &mut [u8], at: usize, n: usize, ranks: [Ranks; 10]) -> usize
+    requires { ⌜ (at + rankLinesRoom ≤ length (now text)) × (n ≤ 9) ⌝ }
+    ensures { λ r. ⌜ Appends (rankLines n ranks) (now (text .entry)) (now (text .exit)) at r × (r ≤ at + rankLinesRoom) ⌝ }
+{
+    let mut place = at;
+    let mut d: usize = 0;
+    while d <= n {
+        place = rank_line(text, place, d, ranks[d]);
+        d += 1;
+    }
+    place
+}
+
+// The exponents that a witness chooses, in graded order.
+fn witness_fields(text: &mut [u8], at: usize, witness: &[u8]) -> usize
+    requires { ⌜ (at + chosenRoom + fieldRoom ≤ length (now text)) × (length (now witness) ≡ 512) ⌝ }
+    ensures { λ r. ⌜ Appends (fields (select (member (now (witness .entry))) graded)) (now (text .entry)) (now (text .exit)) at r × (r ≤ at + chosenRoom) ⌝ }
+{
+    let order = graded_order();
+    let mut place = at;
+    let mut i: usize = 0;
+    while i < POINTS {
+        let u = exponent_at(&order, i);
+        if witness[u.0 as usize] == 1 {
+            place = append_field(text, place, u.0 as u64);
+        }
+        i += 1;
+    }
+    place
+}
+
+// The reported degree, the side, and that side's witness.
+pub fn degree_line(text: &mut [u8], at: usize, k: usize, side: u8, witness: &[u8]) -> usize
+    requires { ⌜ (at + degreeLineRoom + fieldRoom ≤ length (now text)) × (length (now witness) ≡ 512) ⌝ }
+    ensures { λ r. ⌜ Appends (degreeLine k side (now (witness .entry))) (now (text .entry)) (now (text .exit)) at r × (r ≤ at + degreeLineRoom) ⌝ }
+{
+    let chosen = append_heading(
+        text,
+        at,
+        b"degree",
+        k as u64,
+        b" side",
+        side as u64,
+        b" witness",
+    );
+    let end = witness_fields(text, chosen, witness);
+    end_line(text, end)
+}
+
+// Bit `q` of the row of the point `a` in a certificate.
+fn names(certificate: &[u64], a: usize, q: usize) -> bool
+    requires { ⌜ (length (now certificate) ≡ 4096) × (a < 512) × (q < 512) ⌝ }
+    ensures { λ r. ⌜ r ≡ bitOf (now (certificate .entry)) a q ⌝ }
+{
+    (certificate[8 * a + q / 64] >> (q % 64)) % 2 == 1
+}
+
+// The points that a certificate names for the point `a`, rising.
+fn sum_fields(text: &mut [u8], at: usize, certificate: &[u64], a: usize) -> usize
+    requires { ⌜ (at + chosenRoom + fieldRoom ≤ length (now text)) × (length (now certificate) ≡ 4096) × (a < 512) ⌝ }
+    ensures { λ r. ⌜ Appends (fields (select (bitOf (now (certificate .entry)) a) (below 512))) (now (text .entry)) (now (text .exit)) at r × (r ≤ at + chosenRoom) ⌝ }
+{
+    let mut place = at;
+    let mut q: usize = 0;
+    while q < POINTS {
+        if names(certificate, a, q) {
+            place = append_field(text, place, q as u64);
+        }
+        q += 1;
+    }
+    place
+}
+
+// The sum of the point `a`.
+fn sum_line(text: &mut [u8], at: usize, side: u8, certificate: &[u64], a: usize) -> usize
+    requires { ⌜ (at + sumLineRoom + fieldRoom ≤ length (now text)) × (length (now certificate) ≡ 4096) × (a < 512) ⌝ }
+    ensures { λ r. ⌜ Appends (sumLine side a (select (bitOf (now (certificate .entry)) a) (below 512))) (now (text .entry)) (now (text .exit)) at r × (r ≤ at + sumLineRoom) ⌝ }
+{
+    let named = append_heading(text, at, b"side", side as u64, b" point", a as u64, b" sum");
+    let end = sum_fields(text, named, certificate, a);
+    end_line(text, end)
+}
+
+// A line for each point of the set outside the part of a side, rising.
+pub fn sum_lines(
+    text: &mut [u8],
+    at: usize,
+    side: u8,
+    set: &[u8],
+    table: &[u8],
+    certificate: &[u64],
+) -> usize
+    requires { ⌜ (at + sideSumsRoom + fieldRoom ≤ length (now text)) × (length (now set) ≡ 512) × (length (now table) ≡ 512) × (length (now certificate) ≡ 4096) ⌝ }
+    ensures { λ r. ⌜ Appends (sumLines side (now (certificate .entry)) (outside (points (now (set .entry))) (part side (now (set .entry)) (now (table .entry))))) (now (text .entry)) (now (text .exit)) at r × (r ≤ at + sideSumsRoom) ⌝ }
+{
+    let mut place = at;
+    let mut a: usize = 0;
+    while a < POINTS {
+        if set[a] == 1 {
+            if table[a] != side {
+                place = sum_line(text, place, side, certificate, a);
+            }
+        }
+        a += 1;
+    }
+    place
+}
+
+// The additions that the ranks took.
+pub fn additions_line(text: &mut [u8], at: usize, additions: u32) -> usize
+    requires { ⌜ at + additionsLineRoom ≤ length (now text) ⌝ }
+    ensures { λ r. ⌜ Appends (additionsLine additions) (now (text .entry)) (now (text .exit)) at r × (r ≤ at + additionsLineRoom) ⌝ }
+{
+    let end = append_labelled(text, at, b"additions", additions as u64);
+    end_line(text, end)
+}
