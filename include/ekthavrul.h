@@ -1,13 +1,15 @@
 /*
  * The proved operations for C: link libexports.a, which `rt staticlib exports` writes to target/staticlib/.
+ * docs/SPECIFICATION.md says what each operation does.
  *
  * n is the number of taps. A point is a number below 2 to the power n, read in base 2 as x1 (highest bit) to xn.
  * A mask is EKTHAVRUL_POINTS bytes: byte a is 0 or 1 for a point a, and 0 past the last point. A set, a table and the
  * coefficients of a polynomial are masks; those of a polynomial are numbered by exponents.
  *
  * A slice is a pointer and its length in elements; the pointer is never null, and slices that are written to overlap
- * with nothing else that is lent. Every length may be passed: a wrong one is refused. Every other pointer is to one
- * object, or to an array of the length that stands in its declaration.
+ * with nothing else that is lent. Every length may be passed: a wrong one is refused. The memory is there for the whole
+ * of the length that is passed, also where that is wrong: all checks are made before the first refusal is answered.
+ * Every other pointer is to one object, or to an array of the length that stands in its declaration.
  *
  * Each operation but Hand over answers a status: EKTHAVRUL_ACCEPTED, or the number of the first refusal in the order in
  * which they are listed. A refusal leaves all that is lent as it was; RANKS_DIFFER alone clears the workspace. An
@@ -30,8 +32,25 @@ enum {
     EKTHAVRUL_WORKSPACE = 8192,   /* a workspace, in numbers of 64 bits */
     EKTHAVRUL_CERTIFICATE = 4096, /* a certificate, in numbers of 64 bits */
     EKTHAVRUL_ROW_WORDS = 8,      /* a point's row of a certificate, in numbers of 64 bits */
-    EKTHAVRUL_RANKS = 30,         /* the ranks of Judge: three for each degree from 0 to 9 */
+    EKTHAVRUL_REPORT = 33,        /* the report of Judge, in numbers of 32 bits */
     EKTHAVRUL_FILE_MAX = 2053     /* no filter file that is read is longer, in bytes */
+};
+
+/*
+ * The report of Judge: the index of each of its numbers. The ranks of degree d, from 0 to 9, stand
+ * EKTHAVRUL_RANKS_OF_DEGREE * d behind those of degree 0, so that the rank of part 1 at degree d is
+ * report[EKTHAVRUL_RANKS_OF_DEGREE * d + EKTHAVRUL_RANK_ONE_AT].
+ * Later versions may append numbers: EKTHAVRUL_REPORT grows then, and no index changes. All EKTHAVRUL_REPORT numbers are
+ * written, so compile with the header of the library that is linked.
+ */
+enum {
+    EKTHAVRUL_RANK_SET_AT = 0,     /* the rank of S at degree 0 */
+    EKTHAVRUL_RANK_ONE_AT = 1,     /* that of part 1 */
+    EKTHAVRUL_RANK_ZERO_AT = 2,    /* that of part 0 */
+    EKTHAVRUL_RANKS_OF_DEGREE = 3, /* how many ranks each degree has */
+    EKTHAVRUL_DEGREE_AT = 30,      /* the reported degree */
+    EKTHAVRUL_SIDE_AT = 31,        /* the side */
+    EKTHAVRUL_ADDITIONS_AT = 32    /* the count of additions of rows */
 };
 
 /* What an operation answers. */
@@ -81,17 +100,16 @@ uint8_t ekthavrul_rank(const uint8_t *mask, size_t mask_length, size_t n, size_t
                        size_t workspace_length, size_t *rank, uint32_t *additions);
 
 /*
- * Judge: the restricted immunity of the filter. For each degree d up to n, ranks[3 * d] becomes the rank of S,
- * ranks[3 * d + 1] that of part 1 and ranks[3 * d + 2] that of part 0; the ranks past n become 0. `*degree` becomes the
- * first d at which a part's rank is not that of S; `*side` is 1 if part 1 differs there, else 0; `*additions` is the
- * count over all eliminations. `one` and `zero` become the coefficients of the witness of their side, a polynomial of
- * that degree that is zero on the part and not on all of S, or zeros if the side does not differ at that degree.
+ * Judge: the restricted immunity of the filter. The report becomes: for each degree d up to n the ranks of S, of part 1
+ * and of part 0, and 0 for those past n; as the degree the first d at which a part's rank is not that of S; as the side
+ * 1 if part 1 differs there, else 0; as the additions the count over all eliminations. `one` and `zero` become the
+ * coefficients of the witness of their side, a polynomial of that degree that is zero on the part and not on all of S, or
+ * zeros if the side does not differ at that degree. A refusal leaves the report as it was, like all that is lent.
  * Refusals: LENGTH (set, table, workspace, one, zero), TAPS, BYTES (set, then table), EMPTY_SET.
  */
 uint8_t ekthavrul_judge(const uint8_t *set, size_t set_length, const uint8_t *table, size_t table_length, size_t n,
                         uint64_t *workspace, size_t workspace_length, uint8_t *one, size_t one_length, uint8_t *zero,
-                        size_t zero_length, uint16_t ranks[EKTHAVRUL_RANKS], size_t *degree, uint8_t *side,
-                        uint32_t *additions);
+                        size_t zero_length, uint32_t report[EKTHAVRUL_REPORT]);
 
 /*
  * Certify: why no polynomial up to degree d cancels the side: for each point a of S outside the side's part, bit

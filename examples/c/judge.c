@@ -1,5 +1,6 @@
 /* Reads a filter file, judges it, and prints the degree and the side: judge FILE */
 #include <ekthavrul.h>
+#include <inttypes.h>
 #include <stdio.h>
 
 enum { ROOM = 4096, FAILURE = 1, USAGE = 2 };
@@ -13,15 +14,13 @@ static int refused(uint8_t status) {
 /* Prints the degree and the side of the filter. */
 static int judge(const uint8_t *set, const uint8_t *table, size_t n) {
     static uint64_t workspace[EKTHAVRUL_WORKSPACE];
-    uint8_t one[EKTHAVRUL_POINTS], zero[EKTHAVRUL_POINTS], side;
-    uint16_t ranks[EKTHAVRUL_RANKS];
-    size_t degree;
-    uint32_t additions;
+    uint8_t one[EKTHAVRUL_POINTS], zero[EKTHAVRUL_POINTS];
+    uint32_t report[EKTHAVRUL_REPORT];
     uint8_t status = ekthavrul_judge(set, EKTHAVRUL_POINTS, table, EKTHAVRUL_POINTS, n, workspace, EKTHAVRUL_WORKSPACE,
-                                     one, sizeof one, zero, sizeof zero, ranks, &degree, &side, &additions);
+                                     one, sizeof one, zero, sizeof zero, report);
     if (status != EKTHAVRUL_ACCEPTED)
         return refused(status);
-    printf("degree %zu side %d\n", degree, side);
+    printf("degree %" PRIu32 " side %" PRIu32 "\n", report[EKTHAVRUL_DEGREE_AT], report[EKTHAVRUL_SIDE_AT]);
     return 0;
 }
 

@@ -1,4 +1,4 @@
-/* Calls every function of the header with the starred cases of document 01, and once so that it refuses. */
+/* Calls every function of the header with starred cases of the specification, and once so that it refuses. */
 #include <ekthavrul.h>
 #include <stdio.h>
 #include <string.h>
@@ -61,22 +61,29 @@ static void check_rank(void) {
 }
 
 /* Judge of the filter of n taps; its status. */
-static uint8_t judge(size_t n, uint16_t *ranks, size_t *degree, uint8_t *side, uint32_t *additions) {
+static uint8_t judge(size_t n, uint32_t *report) {
     return ekthavrul_judge(set, POINTS, table, POINTS, n, workspace, EKTHAVRUL_WORKSPACE, one, POINTS, zero, POINTS,
-                           ranks, degree, side, additions);
+                           report);
 }
 
-/* Judge and Hand over: case 5. */
-static void check_judge(void) {
-    const uint16_t wanted[] = {1, 1, 1, 3, 1, 3, 4, 1, 3};
-    uint16_t ranks[EKTHAVRUL_RANKS];
-    uint8_t side = 77, copy[4] = {0};
-    size_t degree = 77;
-    uint32_t additions = 77;
-    expect(judge(10, ranks, &degree, &side, &additions) == EKTHAVRUL_TAPS && degree == 77, "Judge refuses taps");
-    expect(judge(2, ranks, &degree, &side, &additions) == 0, "Judge, case 5");
-    expect(degree == 1 && side == 1 && additions == 19, "what Judge answers");
-    expect(memcmp(ranks, wanted, sizeof wanted) == 0 && ranks[29] == 0, "the ranks");
+/* The report of case 5, lent with a number behind it, which stays; a refusal leaves all of it as it was. */
+static void check_report(void) {
+    const uint32_t wanted[EKTHAVRUL_REPORT] = {
+        1, 1, 1, 3, 1, 3, 4, 1, 3, [EKTHAVRUL_DEGREE_AT] = 1, [EKTHAVRUL_SIDE_AT] = 1, [EKTHAVRUL_ADDITIONS_AT] = 19};
+    uint32_t report[EKTHAVRUL_REPORT + 1], entry[EKTHAVRUL_REPORT + 1];
+    const uint32_t *last = report + 2 * EKTHAVRUL_RANKS_OF_DEGREE;
+    memset(report, 77, sizeof report);
+    memcpy(entry, report, sizeof entry);
+    expect(judge(10, report) == EKTHAVRUL_TAPS && memcmp(report, entry, sizeof report) == 0, "Judge refuses taps");
+    expect(judge(2, report) == 0 && memcmp(report, wanted, sizeof wanted) == 0, "Judge, case 5");
+    expect(report[EKTHAVRUL_REPORT] == entry[EKTHAVRUL_REPORT], "the number behind the report");
+    expect(last[EKTHAVRUL_RANK_SET_AT] == 4 && last[EKTHAVRUL_RANK_ONE_AT] == 1 && last[EKTHAVRUL_RANK_ZERO_AT] == 3,
+           "the ranks at degree 2");
+}
+
+/* Hand over of what Judge left: case 5. */
+static void check_hand_over(void) {
+    uint8_t copy[4] = {0};
     expect(ekthavrul_hand_over(2, 1, one, POINTS, zero, POINTS, copy, sizeof copy) == 4, "Hand over");
     expect(copy[0] == 1 && copy[1] == 1 && copy[2] == 0 && copy[3] == 0, "the witness handed over");
     expect(ekthavrul_hand_over(2, 2, one, POINTS, zero, POINTS, copy, sizeof copy) == 0, "Hand over refuses a side");
@@ -103,7 +110,8 @@ int main(void) {
     check_read();
     check_normal_form();
     check_rank();
-    check_judge();
+    check_report();
+    check_hand_over();
     check_certify();
     return faults != 0;
 }

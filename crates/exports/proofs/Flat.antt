@@ -1,16 +1,20 @@
--- The ranks at each degree as numbers.
---   flat-none   no degree is written yet
---   flat-next   the numbers of one degree more
+-- The numbers of a report, stored three at a time.
+--   flat-none              no degree is written yet
+--   stored out k x y z     three numbers are stored in a list, from place k on
+--   length-stored          which leaves its length
+--   flat-next              the ranks of one degree more
+--   flat-last              the three numbers behind the ranks of all degrees
 use mathlib.Core.Path.{_≡_, refl, sym, ap, _∙_}
 use mathlib.Core.List.{List, [], _∷_, _++_, append-assoc}
+use mathlib.Core.Option.{some}
 use Prim.Native.Nat.{ℕ, suc, _+_, _*_, _<_}
 use native.Mathlib.Numerals.{add-one}
 use native.Mathlib.Omega.{arith}
 use lib.ListN.{length, getD, set, take, length-set}
-use lib.Seq.{take-suc, take-suc-set}
+use lib.Seq.{take-all, take-suc, take-suc-set}
 use Rattle.immunity.specs.declared.Ranks.{Ranks}
 use Rattle.immunity.specs.Ranks.{noRanks}
-use Rattle.exports.specs.Exported.{flat}
+use Rattle.exports.specs.Report.{flat, numbers}
 
 -- no degree is written yet
 pub flat-none : (out : List ℕ) (rs : List Ranks) → take (3 * 0) out ≡ flat (take 0 rs)
@@ -23,28 +27,46 @@ unfolding flat
 flat-snoc [] r = refl
 flat-snoc (x ∷ rs) r = ap (λ ys. x .set ∷ x .one ∷ x .zero ∷ ys) (flat-snoc rs r)
 
--- three numbers are stored behind the first k
-take-three : (out : List ℕ) (k x y z : ℕ) → k + 2 < length out
-    → take (k + 3) (set (set (set out k x) (k + 1) y) (k + 2) z) ≡ take k out ++ (x ∷ y ∷ z ∷ [])
-take-three out k x y z l =
-    let e₁ : k + 1 ≡ suc k = omega arith in
-    let e₂ : k + 2 ≡ suc (suc k) = omega arith in
-    let e₃ : k + 3 ≡ suc (suc (suc k)) = omega arith in
-    let one : List ℕ = set out k x in
-    let two : List ℕ = set one (suc k) y in
-    let a : take (suc k) one ≡ take k out ++ (x ∷ []) = take-suc-set out k x (omega arith) in
-    let b : take (suc (suc k)) two ≡ take (suc k) one ++ (y ∷ []) = take-suc-set one (suc k) y (omega (arith, length-set out k x)) in
-    let c : take (suc (suc (suc k))) (set two (suc (suc k)) z) ≡ take (suc (suc k)) two ++ (z ∷ []) =
-    take-suc-set two (suc (suc k)) z (omega (arith, length-set out k x, length-set one (suc k) y)) in
-    rw (e₁, e₂, e₃) (c ∙ ap (λ t. t ++ (z ∷ [])) (b ∙ ap (λ t. t ++ (y ∷ [])) a) ∙ ap (λ t. t ++ (z ∷ [])) (append-assoc (take k out) (x ∷ []) (y ∷ [])) ∙ append-assoc (take k out) (x ∷ y ∷ []) (z ∷ []))
+-- three numbers are stored from place k on
+abbrev pub stored : List ℕ → ℕ → ℕ → ℕ → ℕ → List ℕ
+stored out k x y z = set (set (set out (k + 0) x) (k + 1) y) (k + 2) z
 
--- the numbers of one degree more
+module _ (out : List ℕ) (k x y z : ℕ) where
+  -- which leaves the length
+  pub length-stored : length (stored out k x y z) ≡ length out
+  length-stored = length-set (set (set out (k + 0) x) (k + 1) y) (k + 2) z ∙ length-set (set out (k + 0) x) (k + 1) y ∙ length-set out (k + 0) x
+
+  -- and they stand behind the first k numbers
+  take-stored : k + 2 < length out → take (k + 3) (stored out k x y z) ≡ take k out ++ (x ∷ y ∷ z ∷ [])
+  take-stored l =
+      let e₀ : k + 0 ≡ k = omega arith in
+      let e₁ : k + 1 ≡ suc k = omega arith in
+      let e₂ : k + 2 ≡ suc (suc k) = omega arith in
+      let e₃ : k + 3 ≡ suc (suc (suc k)) = omega arith in
+      let one : List ℕ = set out k x in
+      let two : List ℕ = set one (suc k) y in
+      let a : take (suc k) one ≡ take k out ++ (x ∷ []) = take-suc-set out k x (omega arith) in
+      let b : take (suc (suc k)) two ≡ take (suc k) one ++ (y ∷ []) = take-suc-set one (suc k) y (omega (arith, length-set out k x)) in
+      let c : take (suc (suc (suc k))) (set two (suc (suc k)) z) ≡ take (suc (suc k)) two ++ (z ∷ []) =
+      take-suc-set two (suc (suc k)) z (omega (arith, length-set out k x, length-set one (suc k) y)) in
+      rw (e₀, e₁, e₂, e₃) (c ∙ ap (λ t. t ++ (z ∷ [])) (b ∙ ap (λ t. t ++ (y ∷ [])) a) ∙ ap (λ t. t ++ (z ∷ [])) (append-assoc (take k out) (x ∷ []) (y ∷ [])) ∙ append-assoc (take k out) (x ∷ y ∷ []) (z ∷ []))
+
+-- the ranks of one degree more
 pub flat-next : (out : List ℕ) (rs : List Ranks) (d : ℕ) → d < length rs → 3 * d + 2 < length out → take (3 * d) out ≡ flat (take d rs)
-    → take (3 * (d + 1)) (set (set (set out (3 * d) (getD rs d noRanks .set)) (3 * d + 1) (getD rs d noRanks .one)) (3 * d + 2) (getD rs d noRanks .zero)) ≡ flat (take (d + 1) rs)
+    → let r : Ranks = getD rs d noRanks in take (3 * (d + 1)) (stored out (3 * d) (r .set) (r .one) (r .zero)) ≡ flat (take (d + 1) rs)
 flat-next out rs d l m e =
     let r : Ranks = getD rs d noRanks in
     let three : 3 * (d + 1) ≡ 3 * d + 3 = omega arith in
-    ap (λ k. take k (set (set (set out (3 * d) (r .set)) (3 * d + 1) (r .one)) (3 * d + 2) (r .zero))) three
-    ∙ take-three out (3 * d) (r .set) (r .one) (r .zero) m
+    ap (λ k. take k (stored out (3 * d) (r .set) (r .one) (r .zero))) three
+    ∙ take-stored out (3 * d) (r .set) (r .one) (r .zero) m
     ∙ ap (λ xs. xs ++ (r .set ∷ r .one ∷ r .zero ∷ [])) e
     ∙ sym (ap (λ k. flat (take k rs)) (add-one d) ∙ ap flat (take-suc rs d noRanks l) ∙ flat-snoc (take d rs) r)
+
+-- the three numbers behind the ranks of all degrees
+pub flat-last : (out : List ℕ) (rs : List Ranks) (k side a : ℕ) → length out ≡ 33 → take 30 out ≡ flat rs
+    → stored out 30 k side a ≡ numbers rs (some k) side a
+unfolding numbers
+flat-last out rs k side a l e =
+    sym (take-all 33 (stored out 30 k side a) (omega (arith, length-stored out 30 k side a)))
+    ∙ take-stored out 30 k side a (omega arith)
+    ∙ ap (λ xs. xs ++ (k ∷ side ∷ a ∷ [])) e

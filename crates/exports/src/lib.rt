@@ -1,18 +1,28 @@
-// The operations for C and Rust. Each answers 0 where it accepts, and else the refusal's number in document 01; what an
-// operation answers besides goes into lent numbers, which a refusal leaves as they were.
+// The operations for C and Rust: docs/SPECIFICATION.md, 'Library'. Each answers 0 where it accepts, and else the
+// refusal's number; what an operation answers besides goes into lent numbers, which a refusal leaves as they were.
 ghost use mathlib.Core.Path.{_≡_};
+ghost use lib.ListN.{length};
 ghost use Rattle.refusal.specs.Outcome.{leftBy};
 ghost use Rattle.exports.specs.Status.{statusOf};
-ghost use Rattle.exports.specs.Exported.{ReadStatus, RankStatus, flat, JudgeStatus, CertifyStatus, inFront, HandOverStatus};
+ghost use Rattle.exports.specs.Exported.{ReadStatus, RankStatus, JudgeStatus, CertifyStatus, inFront, HandOverStatus};
 ghost use Rattle.polynomial.specs.Convert.{convertOutcome, convertLeaves};
 ghost use Rattle.polynomial.specs.Degree.{degreeOutcome};
-use certify::Certification;
-use filter_file::read::Reading;
-use immunity::Ranks;
+ghost use Rattle.filter_file.specs.Read.{readOutcome};
+ghost use Rattle.order.specs.BuiltIn.{graded};
+ghost use Rattle.filter.specs.Sides.{pair};
+ghost use Rattle.matrix.specs.Rank.{rankOutcome};
+ghost use Rattle.judge.specs.Judge.{judgeOutcome};
+ghost use Rattle.certify.specs.Certify.{certifyOutcome};
+use crate::report::REPORT;
+use crate::report::report_of;
+use certify::CertifyAnswer;
+use filter_file::read::ReadAnswer;
 use judge::Finding;
-use matrix::rank::Ranking;
-use polynomial::convert::Conversion;
+use matrix::rank::RankAnswer;
+use polynomial::convert::ConvertAnswer;
 use polynomial::degree::DegreeAnswer;
+
+mod report; // report.rt: the report of Judge
 
 // Convert.
 #[no_mangle]
@@ -20,8 +30,8 @@ pub extern "C" fn ekthavrul_convert(bytes: &mut [u8], n: usize) -> u8
     ensures { λ r. ⌜ (r ≡ statusOf (convertOutcome n (now (bytes .entry)))) × (now (bytes .exit) ≡ convertLeaves n (now (bytes .entry))) ⌝ }
 {
     match polynomial::convert::convert(bytes, n) {
-        Conversion::Refused(x) => refusal::number(x),
-        Conversion::Converted => 0,
+        ConvertAnswer::Refused(x) => refusal::number(x),
+        ConvertAnswer::Accepted => 0,
     }
 }
 
@@ -32,7 +42,7 @@ pub extern "C" fn ekthavrul_degree(coefficients: &[u8], n: usize, degree: &mut u
 {
     match polynomial::degree::degree(coefficients, n) {
         DegreeAnswer::Refused(x) => refusal::number(x),
-        DegreeAnswer::Degree(d) => {
+        DegreeAnswer::Accepted(d) => {
             *degree = d;
             0
         }
@@ -42,11 +52,11 @@ pub extern "C" fn ekthavrul_degree(coefficients: &[u8], n: usize, degree: &mut u
 // Read: the number of taps goes to `n`.
 #[no_mangle]
 pub extern "C" fn ekthavrul_read(file: &[u8], set: &mut [u8], table: &mut [u8], n: &mut usize) -> u8
-    ensures { λ r. ⌜ ReadStatus (now (file .entry)) (now (set .entry)) (now (set .exit)) (now (table .entry)) (now (table .exit)) (now (n .entry)) (now (n .exit)) r ⌝ }
+    ensures { λ r. ⌜ ReadStatus (readOutcome (length (now (set .entry))) (length (now (table .entry))) (now (file .entry))) (now (set .entry)) (now (set .exit)) (now (table .entry)) (now (table .exit)) (now (n .entry)) (now (n .exit)) r ⌝ }
 {
     match filter_file::read::read(file, set, table) {
-        Reading::Refused(x) => refusal::number(x),
-        Reading::Read(taps) => {
+        ReadAnswer::Refused(x) => refusal::number(x),
+        ReadAnswer::Accepted(taps) => {
             *n = taps;
             0
         }
@@ -63,11 +73,11 @@ pub extern "C" fn ekthavrul_rank(
     rank: &mut usize,
     additions: &mut u32,
 ) -> u8
-    ensures { λ r. ⌜ RankStatus (now (mask .entry)) n d (now (workspace .entry)) (now (workspace .exit)) (now (rank .entry)) (now (rank .exit)) (now (additions .entry)) (now (additions .exit)) r ⌝ }
+    ensures { λ r. ⌜ RankStatus (rankOutcome graded (now (mask .entry)) n d (length (now (workspace .entry)))) (now (workspace .entry)) (now (workspace .exit)) (now (rank .entry)) (now (rank .exit)) (now (additions .entry)) (now (additions .exit)) r ⌝ }
 {
     match matrix::rank::rank(mask, n, d, workspace) {
-        Ranking::Refused(x) => refusal::number(x),
-        Ranking::Accepted(found) => {
+        RankAnswer::Refused(x) => refusal::number(x),
+        RankAnswer::Accepted(found) => {
             *rank = found.rank;
             *additions = found.additions;
             0
@@ -75,24 +85,7 @@ pub extern "C" fn ekthavrul_rank(
     }
 }
 
-// The ranks at each degree as 30 numbers: of the set, of part 1 and of part 0.
-fn flat_ranks(ranks: [Ranks; 10]) -> [u16; 30]
-    ensures { λ r. ⌜ r ≡ flat ranks ⌝ }
-{
-    let mut numbers = [0u16; 30];
-    let mut d: usize = 0;
-    while d < 10 {
-        let here = ranks[d];
-        numbers[3 * d] = here.set;
-        numbers[3 * d + 1] = here.one;
-        numbers[3 * d + 2] = here.zero;
-        d += 1;
-    }
-    numbers
-}
-
-// Judge: the ranks go to `ranks`, for each degree those of the set, part 1 and part 0; the reported degree, the side and
-// the count of additions go to the numbers of their names.
+// Judge: the ranks at each degree, the reported degree, the side and the count of additions go to `report`.
 #[no_mangle]
 pub extern "C" fn ekthavrul_judge(
     set: &[u8],
@@ -101,29 +94,18 @@ pub extern "C" fn ekthavrul_judge(
     workspace: &mut [u64],
     one: &mut [u8],
     zero: &mut [u8],
-    ranks: &mut [u16; 30],
-    degree: &mut usize,
-    side: &mut u8,
-    additions: &mut u32,
+    report: &mut [u32; REPORT],
 ) -> u8
-    ensures { λ r. ⌜ JudgeStatus (now (set .entry)) (now (table .entry)) n (now (workspace .entry)) (now (workspace .exit)) (now (one .entry)) (now (one .exit))
-        (now (zero .entry)) (now (zero .exit)) (now (ranks .entry)) (now (ranks .exit)) (now (degree .entry)) (now (degree .exit)) (now (side .entry)) (now (side .exit))
-        (now (additions .entry)) (now (additions .exit)) r ⌝ }
+    ensures { λ r. ⌜ JudgeStatus (judgeOutcome graded (now (set .entry)) (now (table .entry)) n (length (now (workspace .entry))) (length (now (one .entry))) (length (now (zero .entry))))
+        (now (workspace .entry)) (now (workspace .exit)) (pair (now (one .entry)) (now (zero .entry))) (pair (now (one .exit)) (now (zero .exit))) (now (report .entry)) (now (report .exit)) r ⌝ }
 {
     let answer = judge::judge(set, table, n, workspace, one, zero);
     let finding = answer.finding;
     match finding {
         Finding::Refused(x) => refusal::number(x),
-        Finding::Judged {
-            degree: k,
-            side: s,
-            additions: a,
-        } => {
-            let found = answer.ranks;
-            *ranks = flat_ranks(found);
-            *degree = k;
-            *side = s;
-            *additions = a;
+        Finding::Judged(found) => {
+            let ranks = answer.ranks;
+            *report = report_of(ranks, found.degree, found.side, found.additions);
             0
         }
     }
@@ -140,11 +122,12 @@ pub extern "C" fn ekthavrul_certify(
     workspace: &mut [u64],
     certificate: &mut [u64],
 ) -> u8
-    ensures { λ r. ⌜ CertifyStatus (now (set .entry)) (now (table .entry)) n side d (now (workspace .entry)) (now (workspace .exit)) (now (certificate .entry)) (now (certificate .exit)) r ⌝ }
+    ensures { λ r. ⌜ CertifyStatus (certifyOutcome graded (now (set .entry)) (now (table .entry)) n side d (length (now (workspace .entry))) (length (now (certificate .entry))))
+        (now (workspace .entry)) (now (workspace .exit)) (now (certificate .entry)) (now (certificate .exit)) r ⌝ }
 {
     match certify::certify(set, table, n, side, d, workspace, certificate) {
-        Certification::Refused(x) => refusal::number(x),
-        Certification::Certified => 0,
+        CertifyAnswer::Refused(x) => refusal::number(x),
+        CertifyAnswer::Accepted => 0,
     }
 }
 
@@ -172,7 +155,7 @@ pub extern "C" fn ekthavrul_hand_over<'a>(
     zero: &'a [u8],
     copy: &mut [u8],
 ) -> usize
-    ensures { λ r. ⌜ HandOverStatus n side (now (one .entry)) (now (zero .entry)) (now (copy .entry)) (now (copy .exit)) r ⌝ }
+    ensures { λ r. ⌜ HandOverStatus n side (pair (now (one .entry)) (now (zero .entry))) (now (copy .entry)) (now (copy .exit)) r ⌝ }
 {
     let part = hand_over::hand_over(n, side, one, zero);
     copy_front(part, copy);

@@ -13,19 +13,29 @@ unsafe extern "C" {
         one_length: usize,
         zero: *mut u8,
         zero_length: usize,
-        ranks: *mut [[u16; 3]; 10],
-        degree: *mut usize,
-        side: *mut u8,
-        additions: *mut u32,
+        report: *mut [u32; REPORT],
     ) -> u8;
 }
 
-const UNWRITTEN: Judgement =
-    Judgement { ranks: [[0xdead; 3]; 10], degree: 0xdead_beef, side: 0xde, additions: 0xdead_beef };
+// The length of the report, and where its numbers stand, as include/ekthavrul.h says.
+const REPORT: usize = 33;
+const RANKS_AT: [usize; 3] = [0, 1, 2];
+const RANKS_OF_DEGREE: usize = 3;
+const DEGREE_AT: usize = 30;
+const SIDE_AT: usize = 31;
+const ADDITIONS_AT: usize = 32;
 
-// Judge.
+// What a report says: each of its numbers is read.
+fn judgement(report: [u32; REPORT]) -> Judgement {
+    let ranks = std::array::from_fn(|d| RANKS_AT.map(|i| report[RANKS_OF_DEGREE * d + i] as usize));
+    let side = report[SIDE_AT].try_into().expect("a side");
+    Judgement { ranks, degree: report[DEGREE_AT] as usize, side, additions: report[ADDITIONS_AT] }
+}
+
+// Judge, lent a report of numbers that it does not answer.
 pub fn judge(filter: Filter, workspace: &mut [u64], one: &mut [u8], zero: &mut [u8]) -> Result<Judgement, u8> {
-    let (mut answer, mut ranks) = (UNWRITTEN, [[0xdead; 3]; 10]);
+    let unwritten = std::array::from_fn(|i| 0xdead_beef - i as u32);
+    let mut report = unwritten;
     let status = unsafe {
         ekthavrul_judge(
             filter.set.as_ptr(),
@@ -39,12 +49,8 @@ pub fn judge(filter: Filter, workspace: &mut [u64], one: &mut [u8], zero: &mut [
             one.len(),
             zero.as_mut_ptr(),
             zero.len(),
-            &mut ranks,
-            &mut answer.degree,
-            &mut answer.side,
-            &mut answer.additions,
+            &mut report,
         )
     };
-    answer.ranks = ranks.map(|line| line.map(usize::from));
-    crate::outcome(status, UNWRITTEN, answer)
+    crate::outcome(status, unwritten, report).map(judgement)
 }

@@ -20,7 +20,7 @@ fn lend(random: &mut Random, mask: &[u8], n: usize, d: usize, length: usize) -> 
     proved
 }
 
-// The mask with a workspace of the right length: accepted, and the additions within the document's bound.
+// The mask with a workspace of the right length: accepted, and the additions within the bound.
 fn accept(random: &mut Random, mask: &[u8], n: usize, d: usize) -> Ranking {
     let found = lend(random, mask, n, d, 8192).expect("accepted");
     let (m, r) = (mask.iter().filter(|x| **x == 1).count(), found.rank);

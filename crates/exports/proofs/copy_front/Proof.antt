@@ -1,3 +1,4 @@
+-- The loop's invariant: the buffer is the first i bytes of the part, then its own bytes from i on; at the end of either, front-done.
 use borrow.Author.Needs.{needs}
 use mathlib.Core.Path.{_≡_, refl, _∙_}
 use mathlib.Core.List.{_++_}

@@ -10,14 +10,14 @@ returns : tie.Need-returns
 returns c =
     let x = c .before .before in
     let d = x .before .before in
-    let e = ap outcomeOf (sym (x .x .given .1)) ∙ d .degree .ensures in
+    let e = ap outcomeOf (sym (x .x .given .1)) ∙ d .degree .ensures .answers in
     (c .number .ensures ∙ ap statusOf e, ap (λ o. leftBy o (d .before .before .args .degree .now) (λ k. k)) e)
 
 returns-2 : tie.Need-returns-2
 returns-2 c =
     let x = c .before in
     let d = x .before .before in
-    let e = ap outcomeOf (sym (x .d .given .1)) ∙ d .degree .ensures in
+    let e = ap outcomeOf (sym (x .d .given .1)) ∙ d .degree .ensures .answers in
     (ap statusOf e, ap (λ o. leftBy o (d .before .before .args .degree .now) (λ k. k)) e)
 
 pub ekthavrul-degree-spec : {M : Type 1} → statement M

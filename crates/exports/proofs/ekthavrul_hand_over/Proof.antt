@@ -9,7 +9,7 @@ returns : tie.Need-returns
 returns c =
     let p = c .before .before in
     let h = p .before .before in
-    record { long = ap length (h .hand-over .ensures); copied = p .copy-front .ensures ∙ ap (λ x. inFront x (h .before .before .before .before .args .copy .now)) (h .hand-over .ensures) }
+    record { long = ap length (h .hand-over .ensures .answers); copied = p .copy-front .ensures ∙ ap (λ x. inFront x (h .before .before .before .before .args .copy .now)) (h .hand-over .ensures .answers) }
 
 pub ekthavrul-hand-over-spec : {M : Type 1} → statement M
 ekthavrul-hand-over-spec =

@@ -1,47 +1,64 @@
+-- The contract of `judge`, read at the finding that was matched, states the outcome; status and report are those of what the finding states (left-by).
 use borrow.Author.Needs.{needs}
 use mathlib.Core.Path.{_≡_, refl, sym, ap, _∙_}
 use mathlib.Core.List.{List}
-use mathlib.Core.Option.{some}
+use mathlib.Core.Option.{none, some}
 use Prim.Native.Nat.{ℕ}
-use Rattle.refusal.specs.Outcome.{Outcome, leftBy}
+use Rattle.refusal.specs.Outcome.{Outcome, accepted, leftBy}
+use Rattle.refusal.proofs.Outcomes.{not-both}
+use Rattle.filter.specs.Sides.{Sides}
+use Rattle.immunity.specs.Judgement.{Judgement}
 use Rattle.judge.specs.declared.JudgeAnswer.{JudgeAnswer}
 use Rattle.judge.specs.declared.Finding.{Finding}
-use Rattle.immunity.specs.Judgement.{Judgement}
-use Rattle.judge.specs.Judge.{found, Judges}
+use Rattle.judge.specs.declared.Finding.the-variants.{Refused, Judged}
+use Rattle.immunity.specs.declared.Ranks.{Ranks}
+use Rattle.judge.specs.Judge.{found, JudgeContract}
+use Rattle.judge.proofs.Passed.{degree-small}
 use Rattle.exports.specs.Status.{statusOf}
-use Rattle.exports.specs.Exported.{flat, JudgeStatus}
+use Rattle.exports.specs.Report.{reportOf}
+use Rattle.exports.specs.Exported.{JudgeStatus}
 use Rattle.exports.proofs.ekthavrul_judge.Statement.{statement}
 use Rattle.exports.proofs.ekthavrul_judge.Tie as tie
 
--- what an answer states, and what is left in the lent numbers
-left-by : {s f : List ℕ} {n : ℕ} {ws one zero ws′ one′ zero′ : List ℕ} {answer : JudgeAnswer} → Judges s f n ws one zero ws′ one′ zero′ answer
-    → {x : Finding} → answer .finding ≡ x → {rs rs′ : List ℕ} {k k′ side side′ a a′ r : ℕ} → let o : Outcome Judgement = found x (answer .ranks) one′ zero′ in
-    r ≡ statusOf o → rs′ ≡ leftBy o rs (λ j. flat (j .ranks)) → some k′ ≡ leftBy o (some k) (λ j. j .degree) → side′ ≡ leftBy o side (λ j. j .side)
-    → a′ ≡ leftBy o a (λ j. j .additions) → JudgeStatus s f n ws ws′ one one′ zero zero′ rs rs′ k k′ side side′ a a′ r
-left-by {one′ = one′} {zero′ = zero′} {answer = answer} h e {rs} {k = k} {side = side} {a = a} status ranks degree of-side additions =
-    let o = ap (λ y. found y (answer .ranks) one′ zero′) (sym e) ∙ h .answers in
-    record {
-      status = status ∙ ap statusOf o;
-      workspace = h .leaves;
-      witness-one = h .leaves-one;
-      witness-zero = h .leaves-zero;
-      ranks = ranks ∙ ap (λ y. leftBy y rs (λ j. flat (j .ranks))) o;
-      degree = degree ∙ ap (λ y. leftBy y (some k) (λ j. j .degree)) o;
-      of-side = of-side ∙ ap (λ y. leftBy y side (λ j. j .side)) o;
-      additions = additions ∙ ap (λ y. leftBy y a (λ j. j .additions)) o;
-    }
+-- what is found has a degree
+found-degree : (x : Finding) (rs : List Ranks) (w : Sides (List ℕ)) (j : Judgement) → found x rs w ≡ accepted j → (k : ℕ) × (j .degree ≡ some k)
+found-degree (Refused y) rs w j e = absurd (not-both e)
+found-degree (Judged y) rs w j e = (y .degree, sym (ap (λ (z : Outcome Judgement). leftBy z none (λ i. i .degree)) e))
+
+module _ {o : Outcome Judgement} {ws ws′ : List ℕ} {w w′ : Sides (List ℕ)} {answer : JudgeAnswer} (h : JudgeContract o ws ws′ w w′ answer)
+    {x : Finding} (e : answer .finding ≡ x) where
+  -- what the finding states is the outcome
+  states : found x (answer .ranks) w′ ≡ o
+  states = ap (λ y. found y (answer .ranks) w′) (sym e) ∙ h .answers
+
+  -- the status and the report of what the finding states
+  left-by : {ns ns′ : List ℕ} {r : ℕ} → r ≡ statusOf (found x (answer .ranks) w′) → ns′ ≡ leftBy (found x (answer .ranks) w′) ns reportOf
+      → JudgeStatus o ws ws′ w w′ ns ns′ r
+  left-by {ns} status report = record {
+    status = status ∙ ap statusOf states;
+    workspace = h .leaves;
+    witnesses = h .leaves-witnesses;
+    report = report ∙ ap (λ y. leftBy y ns reportOf) states;
+    reported = λ j a. found-degree x (answer .ranks) w′ j (states ∙ a);
+  }
+
+report-of-requires : tie.Need-report-of-requires
+report-of-requires c κs =
+    let x = c .before .before in
+    let j = x .before .before .before .before .before .before .before .before in
+    degree-small _ _ _ _ _ _ _ _ _ (sym (states (j .judge .ensures) (x .finding2 .given .1))) refl
 
 returns : tie.Need-returns
 returns c =
     let x = c .before .before in
     let j = x .before .before .before .before .before .before .before .before in
-    left-by (j .judge .ensures) (x .finding .given .1) (c .number .ensures) refl refl refl refl
+    left-by (j .judge .ensures) (x .finding .given .1) (c .number .ensures) refl
 
 returns-2 : tie.Need-returns-2
 returns-2 c =
     let x = c .before .before .before in
     let j = x .before .before .before .before .before .before .before .before in
-    left-by (j .judge .ensures) (x .finding2 .given .1) refl (c .flat-ranks .ensures) refl refl refl
+    left-by (j .judge .ensures) (x .finding2 .given .1) refl (c .report-of .ensures)
 
 pub ekthavrul-judge-spec : {M : Type 1} → statement M
 ekthavrul-judge-spec =
@@ -51,7 +68,7 @@ ekthavrul-judge-spec =
     (λ c. search needs)
     (λ c κs. search needs)
     (λ c. search needs)
-    (λ c κs. search needs)
+    report-of-requires
     (λ c. search needs)
     (λ c. search needs)
     (λ c. search needs)

@@ -1,0 +1,28 @@
+-- The report of Judge: what it answers beside its buffers, as a list of 33 numbers.
+--   flat rs               the ranks at each degree as numbers: of the set, of part 1 and of part 0
+--   degreeNumber k        the number for a degree; 10, which is no degree, if there is none
+--   numbers rs k side a   the report with the ranks rs, the degree k, the side and a additions
+--   reportOf j            the report of a judgement
+use mathlib.Core.List.{List, [], _∷_, _++_}
+use mathlib.Core.Option.{Option, none, some}
+use Prim.Native.Nat.{ℕ}
+use Rattle.immunity.specs.declared.Ranks.{Ranks}
+use Rattle.immunity.specs.Judgement.{Judgement}
+
+-- the ranks at each degree, one after the other
+unfoldable pub flat : List Ranks → List ℕ
+flat [] = []
+flat (r ∷ rs) = r .set ∷ r .one ∷ r .zero ∷ flat rs
+
+-- the degree, or 10 if there is none
+abbrev pub degreeNumber : Option ℕ → ℕ
+degreeNumber none = 10
+degreeNumber (some k) = k
+
+-- the ranks, then the degree, the side and the additions
+unfoldable pub numbers : List Ranks → Option ℕ → ℕ → ℕ → List ℕ
+numbers rs k side a = flat rs ++ (degreeNumber k ∷ side ∷ a ∷ [])
+
+-- the report of a judgement
+abbrev pub reportOf : Judgement → List ℕ
+reportOf j = numbers (j .ranks) (j .degree) (j .side) (j .additions)
