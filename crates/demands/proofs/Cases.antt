@@ -1,4 +1,4 @@
--- The starred cases of document 01 hold: one test that antt computes.
+-- The starred cases of docs/SPECIFICATION.md, 'Cases', hold: one test that antt computes.
 --   cases-hold   each case of the list
 use mathlib.Core.Path.{_≡_, refl}
 use mathlib.Core.Bool.{true, xor}
@@ -16,7 +16,8 @@ use Rattle.polynomial.specs.Convert.{values, converted, convertOutcome, convert
 use Rattle.polynomial.specs.Degree.{largest, degreeOutcome}
 use Rattle.matrix.specs.Matrix.{eliminated}
 use Rattle.matrix.specs.Rank.{rankOutcome}
-use Rattle.immunity.specs.Judgement.{differs, judged, buffer}
+use Rattle.filter.specs.Outside.{isOutside}
+use Rattle.immunity.specs.Judgement.{differs, judged}
 use Rattle.immunity.specs.Certificate.{bitOf, certificate}
 use Rattle.judge.specs.Judge.{judgeOutcome}
 use Rattle.certify.specs.Certify.{certifyOutcome}
@@ -26,7 +27,7 @@ use Rattle.demands.specs.Cases.{sameList, isDegree, onAccepted, isRefuse
 pub cases-hold : holdAll cases ≡ true
 unfolding holdAll cases holds holdFacts holdsFact sameList isDegree onAccepted isRefused
     convertLeaves convertOutcome converted values degreeOutcome largest value sumBelow
-    rankOutcome judgeOutcome certifyOutcome judged differs buffer bitOf certificate number
+    rankOutcome judgeOutcome certifyOutcome judged differs isOutside bitOf certificate number
     eliminated takePoints takePoint keepUnless reduce addIf count isZero pivot solve flip dot unit add total chosen xor
     graded bitsThenZeros within ones onesIn upFrom select consIf lists isEmpty
 cases-hold = refl

@@ -17,7 +17,6 @@ use Rattle.refusal.specs.Outcome.{Outcome, refused, accepted, left, leftBy}
 use Rattle.refusal.proofs.Outcomes.{not-both}
 use Rattle.gf2.specs.Packed.{zeros}
 use Rattle.polynomial.specs.Convert.{converted, convertLeaves}
-use Rattle.matrix.specs.Rank.{workspaceAfter}
 use Rattle.filter_file.specs.File.{Contents, contents, encode, Valid}
 use Rattle.varint.specs.Varint.{Bytes}
 use Rattle.filter_file.specs.Read.{readOutcome}
@@ -26,12 +25,12 @@ use Rattle.filter_file.proofs.Decoded.{contents-decoded}
 use Rattle.filter_file.proofs.Continued.{refusal-stands}
 use Rattle.filter_file.proofs.Faults.{refused-fault}
 use Rattle.filter_file.proofs.ListMasks.{points-listed}
-use Rattle.certify.specs.declared.Certification.{Certification}
+use Rattle.certify.specs.declared.CertifyAnswer.{CertifyAnswer}
 use Rattle.immunity.specs.Judgement.{judged}
-use Rattle.certify.specs.Certify.{certifyOutcome, clearedUnless, Certifying}
+use Rattle.certify.specs.Certify.{clearedUnless, CertifyContract}
 use Rattle.demands.specs.Demands.{Demand1}
 use Rattle.judge.proofs.Passed.{judge-accepts}
-use Rattle.sheet_text.proofs.ReadFilter.{size-small, valid-passed}
+use Rattle.filter_file.proofs.ValidFilter.{size-small, valid-filter, valid-some}
 
 -- what is no file of anything that obeys the rules is refused
 refuses : (s : List ℕ) → Bytes s → ((c : Contents) → Valid c → s ≡ encode c → ⊥) → (k : ℕ) × (contents s ≡ refused k) × (2 ≤ k) × (k ≤ 7)
@@ -60,19 +59,18 @@ cleared : (k : ℕ) (ws : List ℕ) → (k ≢ 12 → clearedUnless (refused k) 
 cleared k ws = (λ h. rw (ne-eqb k 12 h), λ e. rw (eq-eqb k 12 e))
 
 -- what Certify leaves after a refusal
-certify-keeps : (s f : List ℕ) (n side d : ℕ) (ws c ws′ c′ : List ℕ) (r : Certification) (k : ℕ)
-    → Certifying s f n side d ws c ws′ c′ r → certifyOutcome s f n side d (length ws) (length c) ≡ refused k
+certify-keeps : (o : Outcome (List ℕ)) (ws ws′ c c′ : List ℕ) (r : CertifyAnswer) (k : ℕ) → CertifyContract o ws ws′ c c′ r → o ≡ refused k
     → (c′ ≡ c) × (k ≢ 12 → ws′ ≡ ws) × (k ≡ 12 → ws′ ≡ zeros (length ws))
-certify-keeps s f n side d ws c ws′ c′ r k h e =
-    let left : ws′ ≡ clearedUnless (refused k) ws = h .leaves ∙ ap (λ o. clearedUnless o ws) e in (
-      h .leaves-certificate ∙ ap (λ o. leftBy o c (λ x. x)) e,
+certify-keeps o ws ws′ c c′ r k h e =
+    let left : ws′ ≡ clearedUnless (refused k) ws = h .leaves ∙ ap (λ y. clearedUnless y ws) e in (
+      h .leaves-certificate ∙ ap (λ y. leftBy y c (λ x. x)) e,
       λ g. left ∙ cleared k ws .0 g,
       λ g. left ∙ cleared k ws .1 g,
     )
 
 -- every sentence of demand 1
 pub demand1 : Demand1
-unfolding readOutcome convertLeaves workspaceAfter
+unfolding readOutcome convertLeaves
 demand1 = record {
   valid-read = contents-encoded;
   read-in-full = λ s c h e. contents-decoded s h e;
@@ -81,14 +79,11 @@ demand1 = record {
   wrong-lengths = λ k l s. (lengths-to k l s, lengths-from k l s);
   set-points = λ s c h e. let (_, v) = contents-decoded s h e in points-listed (size (c .n)) (c .set) (size-small v) (v .set);
   table-points = λ s c h e. let (_, v) = contents-decoded s h e in points-listed (size (c .n)) (c .table) (size-small v) (v .table);
-  read-judged = λ s c h e. let (_, v) = contents-decoded s h e in (judged graded (c .n) (mask (lists (c .set))) (mask (lists (c .table))), judge-accepts _ _ _ (valid-passed v));
+  read-judged = λ s c h e. let (_, v) = contents-decoded s h e in
+      (judged graded (c .n) (mask (lists (c .set))) (mask (lists (c .table))), judge-accepts graded _ _ _ (valid-filter v) (valid-some v));
   read-keeps = λ o r s s′ f f′ k h e. (h .set ∙ ap (λ x. leftBy x s (λ c. mask (lists (c .set)))) e, h .table ∙ ap (λ x. leftBy x f (λ c. mask (lists (c .table)))) e);
   convert-keeps = λ n b b′ r k h e. h .leaves ∙ ap (λ x. left x b (converted n b)) e;
-  rank-keeps = λ b n d ws ws′ r k h e. h .leaves ∙ ap (λ x. left x ws (zeros (length ws))) e;
-  judge-keeps = λ s f n ws one zero ws′ one′ zero′ r k h e. (
-    h .leaves ∙ ap (λ x. left x ws (zeros (length ws))) e,
-    h .leaves-one ∙ ap (λ x. leftBy x one (λ j. j .one)) e,
-    h .leaves-zero ∙ ap (λ x. leftBy x zero (λ j. j .zero)) e,
-  );
+  rank-keeps = λ o ws ws′ r k h e. h .leaves ∙ ap (λ x. left x ws (zeros (length ws))) e;
+  judge-keeps = λ o ws ws′ w w′ r k h e. (h .leaves ∙ ap (λ x. left x ws (zeros (length ws))) e, h .leaves-witnesses ∙ ap (λ x. leftBy x w (λ j. j .witnesses)) e);
   certify-keeps = certify-keeps;
 }

@@ -3,15 +3,16 @@
 use mathlib.Core.Path.{_≡_, sym, ap, _∙_, subst}
 use mathlib.Core.List.{List}
 use Prim.Native.Nat.{ℕ, _≤_, _<_}
-use native.Mathlib.Omega.{arith}
+use mathlib.Core.Bool.{true}
 use Rattle.cube.specs.Cube.{size}
-use Rattle.cube.specs.Mask.{member, points}
+use Rattle.cube.specs.Mask.{wellFormed, member, points}
 use Rattle.order.specs.BuiltIn.{graded}
-use Rattle.cube.proofs.Taps.{taps-range}
 use Rattle.order.proofs.BuiltIn.{graded-is-graded}
 use Rattle.gf2.specs.Rank.{Rank}
 use Rattle.refusal.specs.Outcome.{left}
-use Rattle.refusal.proofs.Checks.{PassTo, checked-accepts}
+use Rattle.refusal.specs.Verdict.{verdict}
+use Rattle.refusal.specs.declared.verdict.Verdict.the-variants.{Passed}
+use Rattle.refusal.proofs.Verdicts.{passed-all, accepted-passes}
 use Rattle.polynomial.specs.Polynomial.{Polynomial, value}
 use Rattle.polynomial.specs.Convert.{converted, convertChecks, convertOutcome, convertLeaves}
 use Rattle.polynomial.proofs.Value.{value-same, value-twice}
@@ -19,18 +20,24 @@ use Rattle.polynomial.proofs.Converted.{convert-fits}
 use Rattle.polynomial.proofs.NormalForm.{length-converted, converted-at, converted-formed, converted-twice}
 use Rattle.matrix.specs.Matrix.{rows}
 use Rattle.matrix.proofs.RankOf.{rank-of, rank-accepted}
+use Rattle.filter.specs.Sides.{ofSide}
 use Rattle.filter.specs.Part.{part}
-use Rattle.immunity.specs.Judgement.{Judgement, judged, setRank, partRank}
+use Rattle.filter.proofs.Filters.{few-taps}
+use Rattle.immunity.specs.Judgement.{Judgement, judged, setRank, partRanks}
 use Rattle.demands.specs.Demands.{ConvertAccepts, Demand2}
 use Rattle.judge.specs.Judge.{JudgeAccepts}
 use Rattle.immunity.proofs.Given.{set-given, part-given}
-use Rattle.judge.proofs.Passed.{judge-passed}
+use Rattle.judge.proofs.Passed.{judge-accepted}
 
 module _ (n : ℕ) (b : List ℕ) (e : ConvertAccepts n b) where
   -- the checks of Convert hold
-  passed : PassTo (convertChecks n b) 3
+  passed : verdict (convertChecks n b) ≡ Passed
   unfolding convertOutcome
-  passed = checked-accepts (convertChecks n b) _ tt .0 e .0
+  passed = accepted-passes (convertChecks n b) _ tt e .0
+
+  -- so the bytes obey the 0/1/0 rule
+  formed : wellFormed n b ≡ true
+  formed = let (_, (_, (h, _))) = passed-all (convertChecks n b) passed in h
 
   -- an acceptance leaves the converted bytes
   leaves : convertLeaves n b ≡ converted n b
@@ -45,7 +52,8 @@ module _ (n : ℕ) (b : List ℕ) (e : ConvertAccepts n b) where
   again : ConvertAccepts n (convertLeaves n b)
   unfolding convertOutcome
   again =
-      rw (leaves, length-converted n b (convert-fits n b passed), passed 0 (omega arith), passed 1 (omega arith), converted-formed n b (passed 2 (omega arith)))
+      let (long, (tapped, _)) = passed-all (convertChecks n b) passed in
+      rw (leaves, length-converted n b (convert-fits n b passed), long, tapped, converted-formed n b formed)
 
 -- from the table of a polynomial to the polynomial
 only : (n : ℕ) (p : Polynomial) (t : List ℕ) → ConvertAccepts n t → ((a : ℕ) → a < size n → member t a ≡ value n p a)
@@ -53,21 +61,21 @@ only : (n : ℕ) (p : Polynomial) (t : List ℕ) → ConvertAccepts n t → ((a 
 only n p t e h u l = to-table n t e u l ∙ value-same n (member t) (value n p) u h ∙ value-twice n p u l
 
 -- Judge accepts up to nine taps, and judges as the definition says
-few-taps : (n : ℕ) (s f : List ℕ) (j : Judgement) → JudgeAccepts n s f j → (n ≤ 9) × (judged graded n s f ≡ j)
-few-taps n s f j e = let (p, is) = judge-passed n s f j e in (taps-range n .0 (p .tapped) .1, is)
+judged-few : (n : ℕ) (s f : List ℕ) (j : Judgement) → JudgeAccepts graded n s f j → (n ≤ 9) × (judged graded n s f ≡ j)
+judged-few n s f j e = let (h, _, is) = judge-accepted graded n s f j e in (few-taps n s f h, is)
 
 -- the rank of the set that Judge gives is that of its matrix
-set-rank : (n : ℕ) (s f : List ℕ) (j : Judgement) → JudgeAccepts n s f j → (d : ℕ) → d ≤ n → Rank (rows graded n d (points s)) (setRank j d)
+set-rank : (n : ℕ) (s f : List ℕ) (j : Judgement) → JudgeAccepts graded n s f j → (d : ℕ) → d ≤ n → Rank (rows graded n d (points s)) (setRank j d)
 set-rank n s f j e d l =
-    let (small, is) = few-taps n s f j e in
+    let (small, is) = judged-few n s f j e in
     subst (Rank (rows graded n d (points s))) (sym (set-given graded n s f d l small) ∙ ap (λ x. setRank x d) is) (rank-of graded n d (points s))
 
 -- and so is that of each part
-part-rank : (n : ℕ) (s f : List ℕ) (j : Judgement) → JudgeAccepts n s f j → (side d : ℕ) → side ≤ 1 → d ≤ n
-    → Rank (rows graded n d (part side s f)) (partRank j side d)
+part-rank : (n : ℕ) (s f : List ℕ) (j : Judgement) → JudgeAccepts graded n s f j → (side d : ℕ) → side ≤ 1 → d ≤ n
+    → Rank (rows graded n d (part side s f)) (ofSide side (partRanks j d))
 part-rank n s f j e side d m l =
-    let (small, is) = few-taps n s f j e in
-    subst (Rank (rows graded n d (part side s f))) (sym (part-given graded n s f d l small side m) ∙ ap (λ x. partRank x side d) is)
+    let (small, is) = judged-few n s f j e in
+    subst (Rank (rows graded n d (part side s f))) (sym (part-given graded n s f d l small side m) ∙ ap (λ x. ofSide side (partRanks x d)) is)
     (rank-of graded n d (part side s f))
 
 -- every sentence of it
@@ -78,9 +86,9 @@ demand2 = record {
   only-coefficients = only;
   back = λ n b e. (
     again n b e,
-    leaves n (convertLeaves n b) (again n b e) ∙ ap (converted n) (leaves n b e) ∙ converted-twice n b (passed n b e 2 (omega arith)) (convert-fits n b (passed n b e)),
+    leaves n (convertLeaves n b) (again n b e) ∙ ap (converted n) (leaves n b e) ∙ converted-twice n b (formed n b e) (convert-fits n b (passed n b e)),
   );
-  rank = λ b n d r e. rank-accepted b n d 8192 r e graded-is-graded;
+  rank = λ b n d r e. rank-accepted graded b n d 8192 r e graded-is-graded graded-is-graded;
   set-rank = set-rank;
   part-rank = part-rank;
 }

@@ -1,4 +1,4 @@
--- Starred case 5 of document 01, as it is printed: one test that antt computes.
+-- Starred case 5, as it is printed (docs/SPECIFICATION.md, 'Sheet'): one test that antt computes.
 --   sample-sheet   the sheet of the sample file is the sample sheet
 use mathlib.Core.Path.{_≡_, refl}
 use mathlib.Core.Bool.{xor}
@@ -17,9 +17,10 @@ use Rattle.varint.specs.Varint.{groups, varint}
 use Rattle.filter_file.specs.File.{twoLists, contents}
 use Rattle.filter_file.specs.PointList.{pointsFrom, pointList}
 use Rattle.filter_file.specs.Read.{readOutcome}
+use Rattle.filter.specs.Outside.{isOutside}
 use Rattle.immunity.specs.Judgement.{differs, judged}
 use Rattle.immunity.specs.Certificate.{bitOf, certificate}
-use Rattle.sheet_text.specs.Text.{ascii, digits, decimal, joined}
+use Rattle.text.specs.Text.{ascii, digits, decimal, joined}
 use Rattle.sheet_text.specs.Sheet.{judgementSheet, sheet}
 
 -- two taps, all points, f = x1x2
@@ -36,7 +37,7 @@ pub sample-sheet : sheet (2 ∷ 4 ∷ 0 ∷ 1 ∷ 1 ∷ 1 ∷ 1 ∷ 3 ∷ []) �
     ++ ascii "additions 19\n"
 unfolding sheet judgementSheet joined decimal digits ascii
     readOutcome contents twoLists pointList pointsFrom varint groups
-    judged differs bitOf certificate number
+    judged differs isOutside bitOf certificate number
     eliminated takePoints takePoint keepUnless reduce addIf count isZero pivot solve flip dot unit add total chosen xor
     graded bitsThenZeros within ones onesIn upFrom select consIf lists isEmpty
 sample-sheet = refl

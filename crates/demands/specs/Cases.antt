@@ -1,5 +1,5 @@
--- The starred cases of document 01, as one list of inputs and expected answers.
---   Fact            an answer that the document gives
+-- The starred cases of docs/SPECIFICATION.md, 'Cases', as one list of inputs and expected answers.
+--   Fact            an answer that is expected
 --   Case            the number of taps, the points of the set, the points where the table is 1, and the expected answers
 --   sameList xs ys  whether two lists are the same
 --   isDegree k o    whether a degree is reported, and is k
@@ -22,12 +22,13 @@ use Rattle.refusal.specs.Outcome.{Outcome, refused, accepted}
 use Rattle.polynomial.specs.Convert.{convertLeaves}
 use Rattle.polynomial.specs.Degree.{exponents, degreeOutcome}
 use Rattle.matrix.specs.Rank.{rankOutcome}
-use Rattle.immunity.specs.Judgement.{Judgement, setRank, partRank, buffer}
+use Rattle.filter.specs.Sides.{ofSide}
+use Rattle.immunity.specs.Judgement.{Judgement, setRank, partRanks}
 use Rattle.immunity.specs.Certificate.{bitOf}
 use Rattle.judge.specs.Judge.{judgeOutcome}
 use Rattle.certify.specs.Certify.{certifyOutcome}
 
--- an answer that the document gives
+-- an answer that is expected
 pub data Fact : Type 0 where
   -- Convert turns the table into these coefficients, named by their exponents
   coefficients : List ℕ → Fact
@@ -81,12 +82,12 @@ isRefused k (accepted a) = false
 unfoldable pub holdsFact : ℕ → List ℕ → List ℕ → Outcome Judgement → Fact → Bool
 holdsFact n s f o (coefficients us) = sameList (exponents (convertLeaves n f)) us
 holdsFact n s f o (noDegree k) = isRefused k (degreeOutcome n (convertLeaves n f))
-holdsFact n s f o (rank d r) = onAccepted (λ x. eqb (x .rank) r) (rankOutcome s n d 8192)
-holdsFact n s f o (ranks d a b c) = onAccepted (λ j. eqb (setRank j d) a && eqb (partRank j 1 d) b && eqb (partRank j 0 d) c) o
+holdsFact n s f o (rank d r) = onAccepted (λ x. eqb (x .rank) r) (rankOutcome graded s n d 8192)
+holdsFact n s f o (ranks d a b c) = onAccepted (λ j. eqb (setRank j d) a && eqb (partRanks j d .one) b && eqb (partRanks j d .zero) c) o
 holdsFact n s f o (degree k) = onAccepted (λ j. isDegree k (j .degree)) o
 holdsFact n s f o (side i) = onAccepted (λ j. eqb (j .side) i) o
-holdsFact n s f o (witness us) = onAccepted (λ j. sameList (select (member (buffer j (j .side))) graded) us) o
-holdsFact n s f o (sum i d a qs) = onAccepted (λ c. sameList (select (bitOf c a) (below 512)) qs) (certifyOutcome s f n i d 8192 4096)
+holdsFact n s f o (witness us) = onAccepted (λ j. sameList (select (member (ofSide (j .side) (j .witnesses))) graded) us) o
+holdsFact n s f o (sum i d a qs) = onAccepted (λ c. sameList (select (bitOf c a) (below 512)) qs) (certifyOutcome graded s f n i d 8192 4096)
 holdsFact n s f o (additions m) = onAccepted (λ j. eqb (j .additions) m) o
 
 -- each fact of a list is so
@@ -99,7 +100,7 @@ unfoldable pub holds : Case → Bool
 holds c =
     let s : List ℕ = mask (lists (c .set)) in
     let f : List ℕ = mask (lists (c .table)) in
-    holdFacts (c .taps) s f (judgeOutcome s f (c .taps) 8192 512 512) (c .facts)
+    holdFacts (c .taps) s f (judgeOutcome graded s f (c .taps) 8192 512 512) (c .facts)
 
 -- each case of a list is so
 unfoldable pub holdAll : List Case → Bool

@@ -17,27 +17,28 @@ use Rattle.cube.specs.Mask.{member, points, mask}
 use Rattle.order.specs.BuiltIn.{graded}
 use Rattle.refusal.specs.Outcome.{Outcome, refused, accepted}
 use Rattle.polynomial.specs.Polynomial.{Polynomial, value, UpTo, HasDegree}
-use Rattle.polynomial.specs.declared.convert.Conversion.{Conversion}
-use Rattle.polynomial.specs.Convert.{convertOutcome, convertLeaves, Converts}
+use Rattle.polynomial.specs.declared.convert.ConvertAnswer.{ConvertAnswer}
+use Rattle.polynomial.specs.Convert.{convertOutcome, convertLeaves, ConvertContract}
 use Rattle.gf2.specs.Rank.{Rank}
 use Rattle.gf2.specs.Packed.{zeros}
 use Rattle.matrix.specs.declared.rank.Ranked.{Ranked}
 use Rattle.matrix.specs.Matrix.{rows}
-use Rattle.matrix.specs.declared.rank.Ranking.{Ranking}
-use Rattle.matrix.specs.Rank.{rankOutcome, Ranks}
-use Rattle.filter_file.specs.declared.read.Reading.{Reading}
+use Rattle.matrix.specs.declared.rank.RankAnswer.{RankAnswer}
+use Rattle.matrix.specs.Rank.{rankOutcome, RankContract}
+use Rattle.filter_file.specs.declared.read.ReadAnswer.{ReadAnswer}
 use Rattle.filter_file.specs.File.{Contents, encode, Valid}
 use Rattle.varint.specs.Varint.{Bytes}
 use Rattle.filter_file.specs.Fault.{FileFault}
-use Rattle.filter_file.specs.Read.{readOutcome, Reads, reading}
+use Rattle.filter_file.specs.Read.{readOutcome, ReadContract, reading}
 use Rattle.judge.specs.declared.JudgeAnswer.{JudgeAnswer}
-use Rattle.certify.specs.declared.Certification.{Certification}
+use Rattle.certify.specs.declared.CertifyAnswer.{CertifyAnswer}
+use Rattle.filter.specs.Sides.{Sides, ofSide}
 use Rattle.filter.specs.Part.{part}
 use Rattle.immunity.specs.Annihilator.{Annihilator}
-use Rattle.immunity.specs.Judgement.{Judgement, setRank, partRank, buffer, GivenEqual}
+use Rattle.immunity.specs.Judgement.{Judgement, setRank, partRanks, GivenEqual}
 use Rattle.immunity.specs.Certificate.{Certifies}
-use Rattle.judge.specs.Judge.{judgeOutcome, Judges, JudgeAccepts}
-use Rattle.certify.specs.Certify.{certifyOutcome, Certifying, CertifyAccepts}
+use Rattle.judge.specs.Judge.{JudgeContract, JudgeAccepts}
+use Rattle.certify.specs.Certify.{CertifyContract, CertifyAccepts}
 
 -- Convert accepts n taps and the bytes b
 abbrev pub ConvertAccepts : ℕ → List ℕ → Type 0
@@ -45,7 +46,7 @@ ConvertAccepts n b = convertOutcome n b ≡ accepted tt
 
 -- Rank accepts the points of the mask b at n taps and degree d, lent a workspace of the right length, and answers r
 abbrev pub RankAccepts : List ℕ → ℕ → ℕ → Ranked → Type 0
-RankAccepts b n d r = rankOutcome b n d 8192 ≡ accepted r
+RankAccepts b n d r = rankOutcome graded b n d 8192 ≡ accepted r
 
 -- demand 1
 pub record Demand1 : Type 0 where
@@ -65,22 +66,19 @@ pub record Demand1 : Type 0 where
   pub table-points : (file : List ℕ) (c : Contents) → Bytes file → reading file ≡ accepted c → points (mask (lists (c .table))) ≡ c .table
   -- what Read accepts, Judge accepts
   pub read-judged : (file : List ℕ) (c : Contents) → Bytes file → reading file ≡ accepted c
-      → (j : Judgement) × JudgeAccepts (c .n) (mask (lists (c .set))) (mask (lists (c .table))) j
+      → (j : Judgement) × JudgeAccepts graded (c .n) (mask (lists (c .set))) (mask (lists (c .table))) j
   -- a refusal changes none of the lent buffers: of Read,
-  pub read-keeps : (o : Outcome Contents) (r : Reading) (s s′ f f′ : List ℕ) (k : ℕ) → Reads o r s s′ f f′ → o ≡ refused k → (s′ ≡ s) × (f′ ≡ f)
+  pub read-keeps : (o : Outcome Contents) (r : ReadAnswer) (s s′ f f′ : List ℕ) (k : ℕ) → ReadContract o r s s′ f f′ → o ≡ refused k → (s′ ≡ s) × (f′ ≡ f)
   -- of Convert,
-  pub convert-keeps : (n : ℕ) (b b′ : List ℕ) (r : Conversion) (k : ℕ) → Converts n b b′ r → convertOutcome n b ≡ refused k → b′ ≡ b
+  pub convert-keeps : (n : ℕ) (b b′ : List ℕ) (r : ConvertAnswer) (k : ℕ) → ConvertContract n b b′ r → convertOutcome n b ≡ refused k → b′ ≡ b
   -- of Rank,
-  pub rank-keeps : (b : List ℕ) (n d : ℕ) (ws ws′ : List ℕ) (r : Ranking) (k : ℕ) → Ranks b n d ws ws′ r
-      → rankOutcome b n d (length ws) ≡ refused k → ws′ ≡ ws
+  pub rank-keeps : (o : Outcome Ranked) (ws ws′ : List ℕ) (r : RankAnswer) (k : ℕ) → RankContract o ws ws′ r → o ≡ refused k → ws′ ≡ ws
   -- of Judge,
-  pub judge-keeps : (s f : List ℕ) (n : ℕ) (ws one zero ws′ one′ zero′ : List ℕ) (r : JudgeAnswer) (k : ℕ)
-      → Judges s f n ws one zero ws′ one′ zero′ r → judgeOutcome s f n (length ws) (length one) (length zero) ≡ refused k
-      → (ws′ ≡ ws) × (one′ ≡ one) × (zero′ ≡ zero)
+  pub judge-keeps : (o : Outcome Judgement) (ws ws′ : List ℕ) (w w′ : Sides (List ℕ)) (r : JudgeAnswer) (k : ℕ)
+      → JudgeContract o ws ws′ w w′ r → o ≡ refused k → (ws′ ≡ ws) × (w′ ≡ w)
   -- and of Certify, save that 12 leaves the workspace zero
-  pub certify-keeps : (s f : List ℕ) (n side d : ℕ) (ws c ws′ c′ : List ℕ) (r : Certification) (k : ℕ)
-      → Certifying s f n side d ws c ws′ c′ r → certifyOutcome s f n side d (length ws) (length c) ≡ refused k
-      → (c′ ≡ c) × (k ≢ 12 → ws′ ≡ ws) × (k ≡ 12 → ws′ ≡ zeros (length ws))
+  pub certify-keeps : (o : Outcome (List ℕ)) (ws ws′ c c′ : List ℕ) (r : CertifyAnswer) (k : ℕ)
+      → CertifyContract o ws ws′ c c′ r → o ≡ refused k → (c′ ≡ c) × (k ≢ 12 → ws′ ≡ ws) × (k ≡ 12 → ws′ ≡ zeros (length ws))
 
 -- demand 2
 pub record Demand2 : Type 0 where
@@ -96,10 +94,10 @@ pub record Demand2 : Type 0 where
   -- Rank's rank is the rank over the field of two elements of the matrix of the mask's points against the monomials up to the degree
   pub rank : (b : List ℕ) (n d : ℕ) (r : Ranked) → RankAccepts b n d r → Rank (rows graded n d (points b)) (r .rank)
   -- so are the ranks that Judge gives: of the set
-  pub set-rank : (n : ℕ) (s f : List ℕ) (j : Judgement) → JudgeAccepts n s f j → (d : ℕ) → d ≤ n → Rank (rows graded n d (points s)) (setRank j d)
+  pub set-rank : (n : ℕ) (s f : List ℕ) (j : Judgement) → JudgeAccepts graded n s f j → (d : ℕ) → d ≤ n → Rank (rows graded n d (points s)) (setRank j d)
   -- and of each part
-  pub part-rank : (n : ℕ) (s f : List ℕ) (j : Judgement) → JudgeAccepts n s f j → (side d : ℕ) → side ≤ 1 → d ≤ n
-      → Rank (rows graded n d (part side s f)) (partRank j side d)
+  pub part-rank : (n : ℕ) (s f : List ℕ) (j : Judgement) → JudgeAccepts graded n s f j → (side d : ℕ) → side ≤ 1 → d ≤ n
+      → Rank (rows graded n d (part side s f)) (ofSide side (partRanks j d))
 
 -- demand 3, of one n, set and table, and what Judge answers and leaves
 pub record Judgement3 (n : ℕ) (s f : List ℕ) (j : Judgement) : Type 0 where
@@ -108,7 +106,7 @@ pub record Judgement3 (n : ℕ) (s f : List ℕ) (j : Judgement) : Type 0 where
       → GivenEqual j side d ↔ ((p : Polynomial) → UpTo n d p → ¬ Annihilator n p (part side s f) (points s))
   -- where they are equal, Certify's certificate names for each point of S outside the part points of the part whose rows sum to its row, and nothing else
   pub certified : (side d : ℕ) → side ≤ 1 → d ≤ n → GivenEqual j side d
-      → (c : List ℕ) × CertifyAccepts n s f side d c × Certifies graded n d (points s) (part side s f) c
+      → (c : List ℕ) × CertifyAccepts graded n s f side d c × Certifies graded n d (points s) (part side s f) c
   -- a degree is reported
   pub k : ℕ
   pub reported : j .degree ≡ some k
@@ -118,11 +116,11 @@ pub record Judgement3 (n : ℕ) (s f : List ℕ) (j : Judgement) : Type 0 where
   pub at : (¬ GivenEqual j 1 k) ⊎ (¬ GivenEqual j 0 k)
   -- each side that differs there has a witness of exactly that degree, zero on its part, one somewhere on S
   pub witness : (side : ℕ) → side ≤ 1 → ¬ GivenEqual j side k
-      → HasDegree n (member (buffer j side)) k × Annihilator n (member (buffer j side)) (part side s f) (points s)
+      → HasDegree n (member (ofSide side (j .witnesses))) k × Annihilator n (member (ofSide side (j .witnesses))) (part side s f) (points s)
   -- every polynomial that is zero on either part and one somewhere on S has at least that degree
   pub least : (side d : ℕ) (p : Polynomial) → side ≤ 1 → Annihilator n p (part side s f) (points s) → HasDegree n p d → k ≤ d
 
 -- demand 3
 pub record Demand3 : Type 0 where
   -- for every n, set and table that Judge accepts (those of every accepted file among them: `read-judged` of demand 1)
-  pub every : (n : ℕ) (s f : List ℕ) (j : Judgement) → JudgeAccepts n s f j → Judgement3 n s f j
+  pub every : (n : ℕ) (s f : List ℕ) (j : Judgement) → JudgeAccepts graded n s f j → Judgement3 n s f j

@@ -1,1 +1,2 @@
-// The demands on the whole, and the starred cases: definitions and laws alone.
+// The demands on the whole, and the starred cases: docs/SPECIFICATION.md, 'Demands' and 'Cases'. Definitions and laws
+// alone.
