@@ -1,4 +1,4 @@
-// Read, document 01, "Filter file".
+// Read: docs/SPECIFICATION.md, 'Filter file' and 'Read'.
 use crate::refusal::{POINTS, Refusal, lengths, require, taps};
 
 // What a file says: n, the points of S, and the points where f is 1.
@@ -9,7 +9,7 @@ pub struct Triple {
     pub table: Vec<usize>,
 }
 
-// Draws the next house number.
+// Draws the next varint.
 fn draw_number(file: &mut impl Iterator<Item = u8>) -> Result<usize, Refusal> {
     let low = file.next().ok_or(Refusal::FileEnds)?;
     if low < 0x80 {
@@ -69,7 +69,7 @@ pub fn read(file: &[u8], set: &mut [u8], table: &mut [u8]) -> Result<usize, u8> 
     Ok(triple.n)
 }
 
-// The groups of a house number below 16,384, in the shortest form.
+// The groups of a number below 16,384 as a varint, in the shortest form.
 pub fn house_number(number: usize) -> Vec<u8> {
     let (low, high) = ((number % 128) as u8, (number / 128) as u8);
     if high == 0 { vec![low] } else { vec![low + 128, high] }

@@ -1,4 +1,4 @@
-// Judge, Certify and Hand over, document 01, "Judgement".
+// Judge, Certify and Hand over: docs/SPECIFICATION.md, 'Judge' to 'Hand over'.
 use crate::normal_form::within;
 use crate::rank::{columns, points_of, ranking, row, row_span};
 use crate::refusal::{CERTIFICATE, POINTS, Refusal, WORKSPACE, bytes, lengths, require, taps};

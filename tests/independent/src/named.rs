@@ -28,12 +28,13 @@ fn sum_of_products(n: usize, a: usize, products: &[&[usize]]) -> bool {
     products.iter().filter(|product| product.iter().all(|i| tap(n, a, *i))).count() % 2 == 1
 }
 
-// A weightwise perfectly balanced function of eight taps, the one of [CMR17] in document 000.
+// A weightwise perfectly balanced function of eight taps: that of Carlet, Méaux and Rotella, as Bonamino and Méaux have
+// it (docs/SPECIFICATION.md, 'Sources').
 pub fn perfectly_balanced(a: usize) -> bool {
     sum_of_products(8, a, &[&[1], &[2], &[3], &[4], &[1, 5], &[2, 6], &[1, 3, 5, 7]])
 }
 
-// The files that document 01 lists, named by their bytes.
+// The files that docs/SPECIFICATION.md, 'Cases', lists, named by their bytes.
 fn listed() -> impl Iterator<Item = Named> {
     LISTED_FILES.into_iter().map(|(file, _)| {
         let bytes: String = file.iter().map(|byte| format!("-{byte:02x}")).collect();
@@ -41,7 +42,7 @@ fn listed() -> impl Iterator<Item = Named> {
     })
 }
 
-// The starred cases of document 01 that are filters.
+// The starred cases of docs/SPECIFICATION.md, 'Cases', that are filters.
 fn starred() -> [Named; 6] {
     [
         named("case-5", 2, |_| true, |a| a == 3),

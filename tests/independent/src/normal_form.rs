@@ -1,4 +1,4 @@
-// Convert and Degree, document 01, "Graded order and normal form".
+// Convert and Degree: docs/SPECIFICATION.md, 'Convert' and 'Degree'.
 use crate::refusal::{POINTS, Refusal, bytes, lengths, require, taps};
 
 // Whether the exponent u lies within the point a: no one of u is a zero of a.

@@ -1,4 +1,4 @@
-// Rank, document 01: the rank by columns in order of number, the additions by the document's words.
+// Rank: docs/SPECIFICATION.md, 'Rank'. The rank by columns in order of number, the additions by the specified steps.
 use crate::normal_form::{weight, within};
 use crate::refusal::{POINTS, Refusal, WORKSPACE, bytes, lengths, require, taps};
 use crate::span::{Bits, Span};
@@ -32,7 +32,7 @@ pub struct Ranking {
     pub additions: u32,
 }
 
-// The elimination as the document words it, on rows in graded order.
+// The elimination as docs/SPECIFICATION.md, 'Elimination', words it, on rows in graded order.
 pub fn eliminate(points: &[usize], n: usize, d: usize) -> Ranking {
     let columns = columns(n, d);
     let mut kept: Vec<(usize, Vec<bool>)> = Vec::new();

@@ -1,10 +1,10 @@
-// The refusals of document 01, and the checks that several operations make.
+// The refusals of docs/SPECIFICATION.md, 'Refusals', and the checks that several operations make.
 
 pub const POINTS: usize = 512;
 pub const WORKSPACE: usize = 8192;
 pub const CERTIFICATE: usize = 4096;
 
-// Why an operation refuses, each with the document's number.
+// Why an operation refuses, each with its number.
 #[derive(Clone, Copy, Debug, PartialEq, Eq)]
 pub enum Refusal {
     Length = 1,
@@ -22,7 +22,7 @@ pub enum Refusal {
 }
 
 impl From<Refusal> for u8 {
-    // The document's number.
+    // Its number.
     fn from(refusal: Refusal) -> u8 {
         refusal as u8
     }

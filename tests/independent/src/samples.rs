@@ -116,10 +116,10 @@ pub fn pairs<A: Copy, B: Copy>(first: &[A], second: &[B]) -> Vec<(A, B)> {
     first.iter().flat_map(|a| second.iter().map(|b| (*a, *b))).collect()
 }
 
-// The file of the sheet that document 01 prints: two taps, all points, f = x1x2.
+// The file of the sheet in docs/SPECIFICATION.md, 'Sheet': two taps, all points, f = x1x2.
 pub const PRINTED_FILE: [u8; 8] = [0x02, 0x04, 0x00, 0x01, 0x01, 0x01, 0x01, 0x03];
 
-// The files that document 01 lists, each with its refusal number, or 0 for the one that is read.
+// The files that docs/SPECIFICATION.md, 'Cases', lists, each with its refusal number, or 0 for the one that is read.
 pub const LISTED_FILES: [(&[u8], u8); 13] = [
     (&[], 2),
     (&[0x80], 2),

@@ -1,4 +1,4 @@
-// The printed sheet, document 01.
+// The printed sheet: docs/SPECIFICATION.md, 'Sheet'.
 use crate::filter_file::read;
 use crate::judgement::{Filter, Judgement, certify, judge};
 use crate::rank::{columns, points_of};

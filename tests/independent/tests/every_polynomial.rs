@@ -58,7 +58,7 @@ fn rank(all: &[Polynomial], points: usize, d: usize) -> usize {
     values.len().ilog2() as usize
 }
 
-// The additions of the elimination of the points at degree d, by the document's words; bit i of a row for column i.
+// The additions of the elimination of the points at degree d, step by step; bit i of a row for column i.
 fn additions(n: usize, points: usize, d: usize) -> u32 {
     let (columns, mut kept, mut count) = (graded(n, d), Vec::<usize>::new(), 0);
     for a in (0..1 << n).filter(|a| has(points, *a)) {
@@ -80,7 +80,8 @@ fn rankings(all: &[Polynomial], n: usize, d: usize) -> Vec<Ranking> {
     (0..1 << (1 << n)).map(ranking).collect()
 }
 
-// The witness by the document's words: p, the kept columns, and the only polynomial on them; 0 where there is none.
+// The witness as docs/SPECIFICATION.md, 'Witness', words it: p, the kept columns, and the only polynomial on them; 0
+// where there is none.
 fn witness(all: &[Polynomial], n: usize, set: usize, part: usize, k: usize) -> usize {
     let exponents = graded(n, k);
     let row = |a: usize| collect(n, |u| u & a == u && exponents.contains(&u));

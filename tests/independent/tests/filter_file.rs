@@ -1,4 +1,4 @@
-// Read of the independent implementation, against the document's files and the files of triples.
+// Read of the independent implementation, against the listed files and the files of triples.
 use independent::filter_file::{Triple, house_number, parse, read};
 use independent::random::Random;
 use independent::refusal::Refusal;

@@ -1,4 +1,4 @@
-// Judge, Certify and Hand over of the independent implementation, against the document's cases, evaluation and sums of
+// Judge, Certify and Hand over of the independent implementation, against the starred cases, evaluation and sums of
 // rows.
 use independent::judgement::{Filter, Judgement, certify, hand_over, judge};
 use independent::normal_form::{convert, degree};
@@ -101,7 +101,7 @@ fn witnesses_and_certificates_of_every_kind_of_filter_of_four_to_nine_taps() {
 }
 
 #[test]
-fn judge_checks_in_the_document_order() {
+fn judge_checks_in_order() {
     let (good, broken, none) = (vec![1; 512], vec![2; 512], vec![0; 512]);
     let number = |set: &[u8], table: &[u8], n, lengths: [usize; 3]| {
         let [mut one, mut zero] = [lengths[1], lengths[2]].map(|length| vec![7; length]);
@@ -123,7 +123,7 @@ fn judge_checks_in_the_document_order() {
 }
 
 #[test]
-fn certify_checks_in_the_document_order() {
+fn certify_checks_in_order() {
     let (set, table, none) = (mask_of(2, |_| true), listed(2, &[3]), vec![0; 512]);
     let number = |set: &[u8], n, side, d, length| {
         let (mut workspace, mut certificate) = (vec![7; 8192], vec![u64::MAX; length]);

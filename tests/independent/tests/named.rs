@@ -1,4 +1,5 @@
-// The weightwise perfectly balanced function of the examples, against document 000.
+// The weightwise perfectly balanced function of the examples, against table 4 of Bonamino and Méaux
+// (docs/SPECIFICATION.md, 'Sources').
 use independent::judgement::{Filter, judge};
 use independent::named::perfectly_balanced;
 use independent::normal_form::weight;

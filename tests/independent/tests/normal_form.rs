@@ -1,4 +1,4 @@
-// Convert and Degree of the independent implementation, against the document's cases and plain evaluation.
+// Convert and Degree of the independent implementation, against the starred cases and plain evaluation.
 use independent::normal_form::{convert, degree, weight, within};
 use independent::random::Random;
 use independent::samples::mask_of;
@@ -45,7 +45,7 @@ fn within_and_weight_agree_with_their_words() {
 }
 
 #[test]
-fn checks_come_in_the_document_order() {
+fn checks_come_in_order() {
     let cases = [(511, 0, 2, 1), (512, 0, 2, 4), (512, 10, 2, 4), (512, 9, 2, 8), (512, 9, 0, 9)];
     for (length, n, first, number) in cases {
         let mut bytes = vec![0; length];

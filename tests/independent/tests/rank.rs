@@ -1,4 +1,4 @@
-// Rank of the independent implementation, against the document's cases and plain counting.
+// Rank of the independent implementation, against the starred cases and plain counting.
 use independent::normal_form::weight;
 use independent::random::Random;
 use independent::rank::{Ranking, columns, eliminate, points_of, rank, ranking, row};
@@ -96,7 +96,7 @@ fn a_span_expresses_its_members_by_kept_names() {
 }
 
 #[test]
-fn checks_come_in_the_document_order() {
+fn checks_come_in_order() {
     let (good, broken) = (mask_of(9, |_| true), vec![2; 512]);
     assert_eq!(rank(&good[1..], 0, 99, &mut [0; 8192]), Err(1));
     assert_eq!(rank(&good, 0, 99, &mut [0; 8191]), Err(1));

@@ -1,4 +1,4 @@
-// The printed sheet of the independent implementation, against the document.
+// The printed sheet of the independent implementation, against that of docs/SPECIFICATION.md, 'Sheet'.
 use independent::samples::{LISTED_FILES, PRINTED_FILE};
 use independent::sheet::sheet;
 
