@@ -1,6 +1,6 @@
 // Points and exponents of up to nine taps: docs/SPECIFICATION.md, 'Words'.
 ghost use mathlib.Core.Path.{_≡_};
-ghost use Prim.Native.Nat.{_≤_};
+ghost use Prim.Native.Nat.{_≤_, _<_};
 ghost use Rattle.cube.specs.Cube.{taps, size as sizeOf, within as withinOf, weight as weightOf};
 
 pub mod mask; // mask.rt: sets, tables and coefficients as 512 bytes
@@ -27,12 +27,12 @@ pub fn valid_taps(n: usize) -> bool
     n <= TAPS_MAX
 }
 
-// The number of points of `n` taps, for up to nine taps.
+// The number of points of `n` taps; from 64 taps on the largest number, which is less.
 pub fn size(n: usize) -> usize
-    ensures { λ r. ⌜ (n ≤ 9 → r ≡ sizeOf n) × (r ≤ 512) ⌝ }
+    ensures { λ r. ⌜ (n < 64 → r ≡ sizeOf n) × (64 ≤ n → r ≡ 18446744073709551615) ⌝ }
 {
-    if TAPS_MAX < n {
-        return POINTS;
+    if 64 <= n {
+        return usize::MAX;
     }
     1 << n
 }

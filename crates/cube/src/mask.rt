@@ -1,10 +1,10 @@
 // Sets, tables and coefficients as they are lent: byte a is 0 or 1 for a below N, and 0 from N on.
 ghost use mathlib.Core.Path.{_≡_};
-ghost use Prim.Native.Nat.{_≤_, _<_};
+ghost use Prim.Native.Nat.{_≤_};
 ghost use lib.ListN.{length};
 ghost use Rattle.cube.specs.NumberLists.{isEmpty};
-ghost use Rattle.cube.specs.Cube.{size as sizeOf};
 ghost use Rattle.cube.specs.Mask.{allowed as allowedOf, wellFormed, marked};
+use crate::size;
 
 // Whether byte `i` of a mask of `points` points may be `x`.
 fn allowed(points: usize, i: usize, x: u8) -> bool
@@ -16,22 +16,12 @@ fn allowed(points: usize, i: usize, x: u8) -> bool
     x == 0
 }
 
-// The number of points of `n` taps, and the largest number for more taps than it has room for.
-fn bound(n: usize) -> usize
-    ensures { λ r. ⌜ (n < 64 → r ≡ sizeOf n) × (64 ≤ n → r ≡ 18446744073709551615) ⌝ }
-{
-    if 64 <= n {
-        return 18446744073709551615;
-    }
-    1 << n
-}
-
 // Whether each byte is 0 or 1 for a point of `n` taps, and 0 from there on; for any `n`, so that it can be asked before
 // the number of taps is known to be right.
 pub fn well_formed(mask: &[u8], n: usize) -> bool
     ensures { λ r. ⌜ r ≡ wellFormed n (now (mask .entry)) ⌝ }
 {
-    let points = bound(n);
+    let points = size(n);
     let mut i: usize = 0;
     while i < mask.len() {
         if !allowed(points, i, mask[i]) {

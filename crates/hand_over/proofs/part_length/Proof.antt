@@ -3,6 +3,7 @@ use mathlib.Core.Path.{_≡_, sym, ap, _∙_}
 use mathlib.Core.Bool.{true, false}
 use Prim.Native.Nat.{ℕ, _≤_}
 use native.Mathlib.Omega.{arith}
+use lib.Pow.{pow-mono}
 use borrow.Author.Tests.{eqb-true}
 use Rattle.cube.proofs.Listed.{and-both}
 use Rattle.cube.proofs.Taps.{taps-range}
@@ -23,7 +24,8 @@ returns c =
     let a = c .before .before .before .args in
     let e : right (a .n) (a .side) (a .one) (a .zero) ≡ true = cc in
     let (one, zero, few) = right-shows (a .n) (a .side) (a .one) (a .zero) e in
-    (c .size .ensures .0 few ∙ sym (ap (λ b. lengthIf b (a .n)) e), omega arith, omega arith)
+    let all = c .size .ensures .0 (omega arith) in
+    (all ∙ sym (ap (λ b. lengthIf b (a .n)) e), omega (arith, all, pow-mono few), omega (arith, all, pow-mono few))
 
 returns-2 : tie.Need-returns-2
 returns-2 c =

@@ -95,7 +95,7 @@ loop-again c =
     let u : c .before .before .exponent-at .result .0 ≡ x = c .before .before .exponent-at .ensures in
     let long : length v ≡ 512 = length-unpack (s .args .x .now) ∙ ap (λ m. m * 64) (s .pre .2) in
     let column : c .before .is-column .result ≡ isColumn n d x = c .before .is-column .ensures
-    ∙ ap₂ (λ m y. ltb y m && leb (weight y) d) (l .before .size .ensures .0 (s .pre .1)) u in
+    ∙ ap₂ (λ m y. ltb y m && leb (weight y) d) (l .before .size .ensures .0 (omega arith)) u in
     ⊎-elim
     (λ w.
     let e : isColumn n d x ≡ true = sym column ∙ w .0 .taken in

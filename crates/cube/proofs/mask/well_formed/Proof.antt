@@ -60,7 +60,7 @@ abbrev μ-loop : tie.MeasureT-loop
 
 loop-holds : tie.Need-loop-holds Inv-loop μ-loop
 loop-holds c =
-    let p : ℕ = c .bound .result in
+    let p : ℕ = c .size .result in
     let e : p ≡ p - 0 = omega arith in
     (omega arith, ap (λ m. bitsThenZeros m (c .before .before .args .mask .now)) e)
 
@@ -68,17 +68,17 @@ loop-holds c =
 tested : (c : tie.After-allowed Inv-loop μ-loop) (t : Bool) → c .allowed .result ≡ t
     → let l = c .before .before .before in
     let m = l .before .before .before .args .mask .now in
-    let p = l .before .bound .result in
+    let p = l .before .size .result in
     bitsThenZeros p m ≡ (t && rest p m (l .loop .i + 1))
 tested c t e =
     let l = c .before .before .before in
     let m = l .before .before .before .args .mask .now in
-    l .loop .inv .1 ∙ step (l .before .bound .result) m (l .loop .i) (omega arith) ∙ rw (← c .allowed .ensures, e)
+    l .loop .inv .1 ∙ step (l .before .size .result) m (l .loop .i) (omega arith) ∙ rw (← c .allowed .ensures, e)
 
 returns : tie.Need-returns Inv-loop μ-loop
 returns c =
     let s = c .before .before .before .before .before in
-    sym (same-bound _ _ (s .bound .ensures) (omega arith) ∙ tested (c .before) false (not-true _ (c .if1 .taken)))
+    sym (same-bound _ _ (s .size .ensures) (omega arith) ∙ tested (c .before) false (not-true _ (c .if1 .taken)))
 
 loop-again : tie.Need-loop-again Inv-loop μ-loop
 loop-again c = (omega arith, tested (c .before) true (not-false _ (c .if1 .left)))
@@ -87,7 +87,7 @@ returns-2 : tie.Need-returns-2 Inv-loop μ-loop
 returns-2 c =
     let l = c .before in
     let s = l .before in
-    sym (same-bound _ _ (s .bound .ensures) (omega arith) ∙ l .loop .inv .1 ∙ none (s .bound .result) (s .before .before .args .mask .now) (l .loop .i) (omega arith))
+    sym (same-bound _ _ (s .size .ensures) (omega arith) ∙ l .loop .inv .1 ∙ none (s .size .result) (s .before .before .args .mask .now) (l .loop .i) (omega arith))
 
 pub well-formed-spec : {M : Type 1} → statement M
 well-formed-spec =

@@ -2,8 +2,10 @@
 use borrow.Author.Needs.{needs}
 use mathlib.Core.Path.{_≡_, sym, ap, _∙_}
 use mathlib.Core.List.{List}
-use Prim.Native.Nat.{ℕ}
+use Prim.Native.Nat.{ℕ, _≤_}
+use native.Mathlib.Omega.{arith}
 use lib.ListN.{drop}
+use lib.Pow.{pow-mono}
 use Rattle.refusal.specs.Outcome.{Outcome, accepted}
 use Rattle.cube.specs.Cube.{size}
 use Rattle.cube.proofs.Taps.{taps-range}
@@ -20,12 +22,19 @@ use Rattle.filter_file.proofs.progress.list_after.Tie as tie
 abbrev entry : tie.After-list-at → tie.Start
 entry c = c .before .before .before .before .before .before .before .before
 
+-- an n that was accepted is at most 9
+few : (c : tie.After-size) → c .before .before .before3 .given .0 .0 ≤ 9
+few c =
+    let b = c .before .before in
+    let tapped = rw (b .before3 .given .1) at (b .before .before .before .before .pre .1) in
+    taps-range (b .before3 .given .0 .0) .0 tapped .1
+
 -- the size that the code works with is N
-size-is : (c : tie.After-list-at) → c .before .before .size .result ≡ size (c .before .before .before .before .before3 .given .0 .0)
-size-is c =
-    let b = c .before .before .before .before in
-    let tapped = rw (b .before3 .given .1) at (entry c .pre .1) in
-    c .before .before .size .ensures .0 (taps-range (b .before3 .given .0 .0) .0 tapped .1)
+size-is : (c : tie.After-size) → c .size .result ≡ size (c .before .before .before3 .given .0 .0)
+size-is c = c .size .ensures .0 (omega (arith, few c))
+
+list-at-requires : tie.Need-list-at-requires
+list-at-requires c κs = omega (arith, size-is (c .before), pow-mono (few (c .before)))
 
 -- the promise, as it stands once the list is known
 known : (c : tie.After-list-at) {l : Listed} → c .list-at .result ≡ l →
@@ -40,7 +49,7 @@ known c e =
     let n = c .before .before .before .before .before3 .given in
     let left = c .list-at .last .1 .1 .1 .1 .0 in
     let drawn : outcomeOf (a .file .now) left (c .list-at .result) ≡ markDrawn (a .out .now) (pointList (a .least) (size (n .0 .0)) s) =
-    rw (← size-is c) (c .list-at .ensures) in
+    rw (← size-is (c .before .before)) (c .list-at .ensures) in
     let read = ap (λ (r : ReadAnswer). listAfter (readingOf r) (a .least) (a .out .now) s) (n .1) in
     read ∙ ap (λ (o : Outcome (Drawn (List ℕ))). draw o (λ marked rest. accepted ((n .0 .0, marked) leaving rest))) (sym drawn ∙ ap (outcomeOf (a .file .now) left) e)
 
@@ -61,7 +70,7 @@ list-after-spec =
     (λ c. search needs)
     (λ c. search needs)
     (λ c κs. search needs)
-    (λ c κs. search needs)
+    list-at-requires
     (λ c. search needs)
     (λ c. search needs)
     returns

@@ -37,7 +37,7 @@ loop-again c =
     let i = l .loop .i in
     let x = getD o i 0 in
     let e : c .before .before .exponent-at .result .0 ≡ x = c .before .before .exponent-at .ensures in
-    let z : l .before .size .result ≡ size n = l .before .size .ensures .0 (s .pre .1) in
+    let z : l .before .size .result ≡ size n = l .before .size .ensures .0 (omega arith) in
     let k = firstExponents o n i in
     let step : firstExponents o n (i + 1) ≡ k ++ consIf (ltb x (size n)) x [] = exponents-next g n i (omega arith) in
     ⊎-elim

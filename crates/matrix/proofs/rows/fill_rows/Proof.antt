@@ -24,7 +24,7 @@ loop-holds c =
     let x = c .before in
     let s = x .before .before .before in
     let t = unpacked (s .args .ws .now) in
-    let all = c .size .ensures .0 (s .pre .2) in
+    let all = c .size .ensures .0 (omega arith) in
     (omega (arith, all), s .pre .0, filled-none (x .exponents .result) (s .args .n) t ∙ ap (filledFrom (x .exponents .result) (s .args .n) t) (sym all))
 
 fill-point-requires : tie.Need-fill-point-requires Inv-loop μ-loop

@@ -13,24 +13,25 @@ use Rattle.matrix.proofs.rows.split_point.Tie as tie
 half : (c : tie.After-size) → c .size .result ≡ size (c .before .args .n / 2)
 half c = c .size .ensures .0 (omega arith)
 
--- it is not empty
-some : (c : tie.After-size) → 1 ≤ c .size .result
-some c = omega (arith, half c, pow-pos (c .before .args .n / 2))
+-- all taps have N points
+all : (c : tie.After-size2) → c .size2 .result ≡ size (c .before .before .args .n)
+all c = c .size2 .ensures .0 (omega arith)
+
+-- the low part has a point, and at most N
+some : (c : tie.After-size) → (1 ≤ c .size .result) × (c .size .result ≤ size (c .before .args .n))
+some c =
+    let n = c .before .args .n in
+    let h : n / 2 ≤ n = omega arith in
+    (omega (arith, half c, pow-pos (n / 2)), omega (arith, half c, pow-mono h))
 
 -- the low bits of a point are at most the point
 less : (c : tie.After-size) → bitAnd (c .before .args .a) (c .size .result - 1) ≤ c .before .args .a
 less c = and-le-l (c .before .args .a) (c .size .result - 1)
 
-sub-t9 : tie.Need-sub-t9
-sub-t9 c =
-    let n = c .before .before .args .n in
-    let h : n / 2 ≤ n = omega arith in
-    omega (arith, c .size2 .ensures .0 (c .before .before .pre .0), half (c .before), pow-mono h)
-
 returns : tie.Need-returns
 returns c =
     let s = c .before .before in
-    splits-by (s .args .n) (s .args .n / 2) (s .args .a) (c .before .size .result) (c .size2 .result) (half (c .before)) (c .size2 .ensures .0 (s .pre .0)) (omega arith) (s .pre .1)
+    splits-by (s .args .n) (s .args .n / 2) (s .args .a) (c .before .size .result) (c .size2 .result) (half (c .before)) (all c) (omega arith) (s .pre .1)
 
 pub split-point-spec : {M : Type 1} → statement M
 split-point-spec =
@@ -40,8 +41,8 @@ split-point-spec =
     (λ c. omega (arith, some c))
     (λ c. less c)
     (λ c. omega (arith, some c))
-    (λ c. omega (arith, less c, pow-mono (c .before .pre .0)))
+    (λ c. omega (arith, less c, some c, pow-mono (c .before .pre .0)))
     (λ c κs. search needs)
-    sub-t9
-    (λ c. omega (arith, less (c .before), pow-mono (c .before .before .pre .0)))
+    (λ c. omega (arith, all c, some (c .before)))
+    (λ c. omega (arith, less (c .before), all c, pow-mono (c .before .before .pre .0)))
     returns)

@@ -32,7 +32,7 @@ loop-again c =
     let i = l .loop .i in
     let x = getD (s .args .order .now) i 0 in
     let b : c .before .is-column .result ≡ isColumn n d x = c .before .is-column .ensures
-    ∙ ap₂ (λ m y. ltb y m && leb (weight y) d) (l .before .size .ensures .0 (s .pre .1)) (c .before .before .exponent-at .ensures) in
+    ∙ ap₂ (λ m y. ltb y m && leb (weight y) d) (l .before .size .ensures .0 (omega arith)) (c .before .before .exponent-at .ensures) in
     let next = columns-next (s .pre .0) n d i (omega arith) in
     ⊎-elim
     (λ w. let e : byte (isColumn n d x) ≡ 1 = ap byte (sym b ∙ w .0 .taken) in (omega arith, omega arith, omega (arith, next, e)))

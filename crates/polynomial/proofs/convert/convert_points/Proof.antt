@@ -11,7 +11,7 @@ use Rattle.polynomial.proofs.convert.convert_points.Tie as tie
 
 -- the number of points
 points : (c : tie.After-size) → c .size .result ≡ size (c .before .before .args .n)
-points c = let s = c .before .before in c .size .ensures .0 (convert-taps (s .args .n) (s .args .bytes .now) (s .pre))
+points c = let s = c .before .before in c .size .ensures .0 (omega (arith, convert-taps (s .args .n) (s .args .bytes .now) (s .pre)))
 
 -- they fit the buffer
 fits : (c : tie.After-size) → c .size .result ≤ length (c .before .before .args .bytes .now)
