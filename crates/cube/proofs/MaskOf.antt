@@ -1,8 +1,8 @@
 -- The mask of a test.
 --   length-mask        it has 512 bytes
 --   mask-well-formed   it obeys the 0/1/0 rule where only points of n taps pass
---   select-same        tests that agree on a list keep the same of it
 --   with-ones-mask     zeros that are marked at numbers are the mask of the numbers
+--   select-same        tests that agree on a list keep the same of it
 --   points-mask        its points are the numbers below 512 that pass
 use mathlib.Core.Path.{_≡_, refl, sym, ap, _∙_}
 use mathlib.Core.Logic.{_⊎_, inl, inr}

@@ -10,8 +10,8 @@
 --   solve-last-separates   solveLast is odd with the last row only
 --   solve-last-pivots      the ones of solveLast stand at pivots
 --   solve-last-unique      solveLast is the only row at pivots that is odd with the last row only
---   solve-last-first       for no rows before the last: a zero row, its pivot changed
 --   solve-last-padded      rows continued by zeros have the same solution
+--   solve-last-first       for no rows before the last: a zero row, its pivot changed
 --   solve-last-next        for one row more, in front: its pivot is changed where its parity is odd; only the entries matter
 use mathlib.Core.Path.{_≡_, refl, sym, ap, _∙_}
 use mathlib.Core.Logic.{_≢_, ⊎-elim}

@@ -1,10 +1,10 @@
 -- The rows of the workspace while a row is reduced and a second row follows it.
+--   places-rows   the rows at places stay where all rows from 512 on but one do
 --   both-none     by no rows: nothing changes
 --   both-left     what is left of the row
 --   both-sum      what the second row is
 --   both-front    the rows before the second row: only the first has changed
 --   both-other    the other rows are as they were
---   places-rows   the rows at places stay where all rows from 512 on but one do
 --   both-next     by one row more
 use mathlib.Core.Path.{_≡_, refl, sym, ap, ap₂, _∙_}
 use mathlib.Core.Logic.{_≢_}

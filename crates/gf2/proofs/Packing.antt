@@ -4,8 +4,8 @@
 --   number-bits    the bits of a number make it
 --   row-word       64 columns of a row of the workspace make its number
 --   number-padded  zeros behind a row change no number
---   pack-at        number k of a row is made of 64 of its columns
 --   length-pack    m numbers
+--   pack-at        number k of a row is made of 64 of its columns
 --   unpack-pack    the numbers of a row hold the row
 use mathlib.Core.Path.{_≡_, refl, sym, ap, ap₂, _∙_}
 use mathlib.Core.Bool.{true, false}

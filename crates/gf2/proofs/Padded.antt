@@ -5,8 +5,8 @@
 --   append-padded      the row with zeros behind it
 --   add-padded         sums of rows continued by zeros
 --   total-padded       a total of rows continued by zeros, added to such a row
---   zero-row           512 zeros: no columns, continued by zeros
 --   unit-padded        512 zeros with a one at a column: a unit row continued by zeros
+--   zero-row           512 zeros: no columns, continued by zeros
 --   length-add         a sum is as long as the longer of its terms
 --   pivot-padded       the pivot stays
 --   zero-padded        a row continued by zeros is zero just if the row is

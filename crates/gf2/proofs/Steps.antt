@@ -1,9 +1,9 @@
 -- The rows of the workspace while a row is reduced and kept.
 --   reduce-next    a row is reduced by one row more
 --   reduces-none   by no rows: nothing changes
---   reduces-next   by one row more
 --   reduced-row    what is left of the row
 --   other-row      the other rows are as they were
+--   reduces-next   by one row more
 --   pivot-zero     a row whose pivot is past its end is zero
 --   pivot-one      a row whose pivot is before its end is not
 --   pivots-set     a row behind the first k may change

@@ -1,8 +1,8 @@
 -- The number of columns of a degree, by the places of a graded order.
 --   isColumn n d u         the exponent u is a column of n taps at degree d
 --   laterColumns o n d i   the columns that the order has from place i on
---   columns-later          the one at place i is the first of them
 --   columnsLeft o n d i    how many they are
+--   columns-later          the one at place i is the first of them
 --   columns-next           one place more
 --   columns-end            none is left at the end
 use mathlib.Core.Path.{_≡_, refl, sym, ap, _∙_}

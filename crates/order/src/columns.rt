@@ -1,7 +1,7 @@
 // The columns of a degree: the exponents of n taps that weigh at most as much, in an order of the exponents.
 ghost use mathlib.Core.Path.{_≡_};
 ghost use mathlib.Core.Bool.{_&&_};
-ghost use Prim.Native.Nat.{_≤_, _<_};
+ghost use Prim.Native.Nat.{_≤_};
 ghost use lib.Dec.{ltb, leb};
 ghost use lib.ListN.{length};
 ghost use Rattle.cube.specs.Cube.{weight as weightOf};

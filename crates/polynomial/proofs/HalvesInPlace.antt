@@ -1,7 +1,7 @@
 -- The list of a slice as its halves are transformed one after the other: what `transform` owes to its calls, and what it leaves.
 --   no-tap           with no tap there is nothing to do
---   bits-take        the bytes of a front are bits
 --   mid s            where the upper half of s starts
+--   bits-take        the bytes of a front are bits
 --   asks-first       what the call on the lower half asks
 --   asks-second      what the call on the upper half asks
 --   asks-add         what the addition of the lower half asks

@@ -23,6 +23,10 @@ sums h s = map (λ k. bitXor (getD s k 0) (getD s (h + k) 0)) (below h)
 length-sums : (h : ℕ) (s : List ℕ) → length (sums h s) ≡ h
 length-sums h s = length-map (below h) (λ k. bitXor (getD s k 0) (getD s (h + k) 0)) ∙ length-from 0 h
 
+-- before the first turn nothing is replaced
+pub lower-start : (h : ℕ) (s : List ℕ) → s ≡ paste s h (sums h s) 0
+lower-start h s = paste-zero s h (sums h s)
+
 module _ (h : ℕ) (s : List ℕ) (long : length s ≡ h + h) where
   -- what has been replaced, with the lower half before it
   head-length : (i : ℕ) → i ≤ h → length (take h s ++ take i (sums h s)) ≡ h + i
@@ -61,7 +65,3 @@ module _ (h : ℕ) (s : List ℕ) (long : length s ≡ h + h) where
       e ∙ ap (paste s h (sums h s)) q
       ∙ ap₂ (λ x y. take h s ++ x ++ y) all (drop-of-length-le s {i = h + h} (omega arith))
       ∙ append-nil (take h s ++ sums h s)
-
--- before the first turn nothing is replaced
-pub lower-start : (h : ℕ) (s : List ℕ) → s ≡ paste s h (sums h s) 0
-lower-start h s = paste-zero s h (sums h s)
