@@ -1,3 +1,2 @@
--- Judge, and what it does in the workspace.
+-- Judge.
 pub mod Judge
-pub mod Ready

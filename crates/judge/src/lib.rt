@@ -12,14 +12,14 @@ ghost use Rattle.order.specs.BuiltIn.{graded};
 ghost use Rattle.filter.specs.Sides.{pair};
 ghost use Rattle.immunity.specs.Ranks.{noRanks};
 ghost use Rattle.immunity.specs.Witness.{newPoint, witnessAt};
-ghost use Rattle.judge.specs.Ready.{Ready};
+ghost use Rattle.degree_ranks.specs.Ready.{Ready};
 ghost use Rattle.judge.specs.declared.Finding.the-variants.{Refused};
 ghost use Rattle.judge.specs.Judge.{judgeChecks, judgeOutcome, JudgeContract};
-use crate::ranks::DEGREES;
-use crate::ranks::all_ranks;
-use crate::ranks::first_difference;
-use crate::ranks::side_of;
 use cube::POINTS;
+use degree_ranks::DEGREES;
+use degree_ranks::all_ranks;
+use degree_ranks::first_difference;
+use degree_ranks::side_of;
 use filter::checks::check_filter_lengths;
 use filter::checks::check_filter_masks;
 use filter::checks::check_length;
@@ -33,8 +33,6 @@ use order::graded_order;
 use refusal::Refusal;
 use refusal::verdict::Verdict;
 use witness::write_side;
-
-mod ranks; // ranks.rt: the ranks at each degree
 
 // What Judge reports beside the ranks.
 pub struct Report {

@@ -18,9 +18,9 @@ use Rattle.matrix.specs.Workspace.{exponents}
 use Rattle.matrix.proofs.Rising.{points-rising}
 use Rattle.matrix.proofs.Stored.{filled-rows}
 use Rattle.immunity.proofs.PartPoints.{part-among}
-use Rattle.judge.specs.Ready.{Ready}
+use Rattle.degree_ranks.specs.Ready.{Ready}
 use Rattle.judge.proofs.Passed.{Passes, judge-passed}
-use Rattle.judge.proofs.Ready.{ready-after}
+use Rattle.degree_ranks.proofs.Ready.{ready-after}
 use Rattle.judge.proofs.Judging.{side-none, judgement-found, accepts}
 use Rattle.judge.proofs.judge_points.Statement.{statement}
 use Rattle.judge.proofs.judge_points.Tie as tie

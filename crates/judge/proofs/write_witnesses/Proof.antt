@@ -1,6 +1,6 @@
 use borrow.Author.Needs.{needs}
 use borrow.Author.Tests.{eqb-true, not-false}
-use Rattle.judge.proofs.Ready.{ready-after}
+use Rattle.degree_ranks.proofs.Ready.{ready-after}
 use Rattle.judge.proofs.write_witnesses.Statement.{statement}
 use Rattle.judge.proofs.write_witnesses.Tie as tie
 

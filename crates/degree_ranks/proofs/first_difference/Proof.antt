@@ -9,9 +9,9 @@ use lib.ListN.{getD}
 use Rattle.cube.specs.NumberLists.{below}
 use Rattle.immunity.specs.First.{firstIf, first}
 use Rattle.immunity.specs.Ranks.{noRanks, differ}
-use Rattle.judge.proofs.Degrees.{degreesFrom, degrees-all, degrees-here, degrees-none}
-use Rattle.judge.proofs.ranks.first_difference.Statement.{statement}
-use Rattle.judge.proofs.ranks.first_difference.Tie as tie
+use Rattle.degree_ranks.proofs.Degrees.{degreesFrom, degrees-all, degrees-here, degrees-none}
+use Rattle.degree_ranks.proofs.first_difference.Statement.{statement}
+use Rattle.degree_ranks.proofs.first_difference.Tie as tie
 
 abbrev Inv-loop : tie.InvT-loop
 Inv-loop n ranks d₀ d =

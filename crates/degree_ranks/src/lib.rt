@@ -1,4 +1,5 @@
-// The ranks of a set and of its two parts at each degree, and the first degree at which they differ.
+// The ranks of a set and of its two parts at each degree, and the first degree at which they differ:
+// docs/SPECIFICATION.md, 'Judge'.
 ghost use mathlib.Core.Path.{_≡_};
 ghost use mathlib.Core.List.{map};
 ghost use mathlib.Core.Option.{some};
@@ -16,7 +17,7 @@ ghost use Rattle.immunity.specs.First.{first};
 ghost use Rattle.immunity.specs.Judgement.{summed};
 ghost use Rattle.immunity.specs.Ranks.{noRanks, ranksIf, ranksIn, ranksUpTo, additionsOf, partDiffers, differ};
 ghost use Rattle.filter.specs.Sides.{pair};
-ghost use Rattle.judge.specs.Ready.{Ready};
+ghost use Rattle.degree_ranks.specs.Ready.{Ready};
 use gf2::COLUMNS;
 use gf2::basis::count_below;
 use gf2::basis::sum_below;

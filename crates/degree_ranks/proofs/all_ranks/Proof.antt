@@ -9,11 +9,11 @@ use Rattle.matrix.specs.Matrix.{eliminated}
 use Rattle.filter.specs.Sides.{pair}
 use Rattle.immunity.specs.declared.Ranks.{Ranks}
 use Rattle.immunity.specs.Ranks.{ranksOf, ranksIn}
-use Rattle.judge.specs.Ready.{Ready}
-use Rattle.judge.proofs.Ready.{ready-after}
-use Rattle.judge.proofs.Degrees.{ranks-same, summed-three}
-use Rattle.judge.proofs.ranks.all_ranks.Statement.{statement}
-use Rattle.judge.proofs.ranks.all_ranks.Tie as tie
+use Rattle.degree_ranks.specs.Ready.{Ready}
+use Rattle.degree_ranks.proofs.Ready.{ready-after}
+use Rattle.degree_ranks.proofs.Degrees.{ranks-same, summed-three}
+use Rattle.degree_ranks.proofs.all_ranks.Statement.{statement}
+use Rattle.degree_ranks.proofs.all_ranks.Tie as tie
 
 -- the workspace is ready after the set was taken
 ready-one : (c : tie.After-mask-ranks) → let a = c .before .before .before .before .before .before .before .args in

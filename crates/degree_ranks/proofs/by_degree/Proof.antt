@@ -3,9 +3,9 @@ use native.Mathlib.Omega.{arith}
 use mathlib.Core.Path.{refl}
 use Rattle.filter.specs.Sides.{pair}
 use Rattle.immunity.specs.Ranks.{ranksIn}
-use Rattle.judge.proofs.Degrees.{RanksTo, ranks-none, ranks-next, ranks-all}
-use Rattle.judge.proofs.ranks.by_degree.Statement.{statement}
-use Rattle.judge.proofs.ranks.by_degree.Tie as tie
+use Rattle.degree_ranks.proofs.Degrees.{RanksTo, ranks-none, ranks-next, ranks-all}
+use Rattle.degree_ranks.proofs.by_degree.Statement.{statement}
+use Rattle.degree_ranks.proofs.by_degree.Tie as tie
 
 abbrev Inv-loop : tie.InvT-loop
 Inv-loop n set one zero ranks₀ d₀ ranks d = (d ≤ n + 1) × RanksTo (ranksIn set (pair one zero)) d ranks

@@ -17,9 +17,9 @@ use Rattle.gf2.proofs.Rows.{length-rows, length-row}
 use Rattle.matrix.specs.Matrix.{eliminated, rankOf}
 use Rattle.matrix.proofs.Tallied.{tallied-rank, tallied-additions}
 use Rattle.immunity.specs.Judgement.{summed}
-use Rattle.judge.proofs.Degrees.{degreesFrom, degrees-all, degrees-here, degrees-none}
-use Rattle.judge.proofs.ranks.mask_ranks.Statement.{statement}
-use Rattle.judge.proofs.ranks.mask_ranks.Tie as tie
+use Rattle.degree_ranks.proofs.Degrees.{degreesFrom, degrees-all, degrees-here, degrees-none}
+use Rattle.degree_ranks.proofs.mask_ranks.Statement.{statement}
+use Rattle.degree_ranks.proofs.mask_ranks.Tie as tie
 
 -- the additions at a degree
 abbrev addedAt : List ℕ → ℕ → List ℕ → ℕ → ℕ

@@ -1,6 +1,6 @@
 use borrow.Author.Tests.{eq-eqb, ne-eqb}
-use Rattle.judge.proofs.ranks.part_differs.Statement.{statement}
-use Rattle.judge.proofs.ranks.part_differs.Tie as tie
+use Rattle.degree_ranks.proofs.part_differs.Statement.{statement}
+use Rattle.degree_ranks.proofs.part_differs.Tie as tie
 
 returns : tie.Need-returns
 returns c = simp (ne-eqb _ _ (c .if1 .taken))

@@ -7,7 +7,7 @@ use lib.ListN.{length, drop}
 use Rattle.gf2.specs.Packed.{unpacked}
 use Rattle.matrix.specs.Workspace.{exponents}
 use Rattle.matrix.proofs.Stored.{stays-rows}
-use Rattle.judge.specs.Ready.{Ready}
+use Rattle.degree_ranks.specs.Ready.{Ready}
 
 module _ {o : List ℕ} {n : ℕ} {ws s p q : List ℕ} (r : Ready o n ws s p q) (ws′ : List ℕ) where
   -- what leaves the rows of points in their places leaves it ready

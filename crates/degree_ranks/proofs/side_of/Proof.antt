@@ -1,6 +1,6 @@
 use borrow.Author.Tests.{eq-eqb, ne-eqb}
-use Rattle.judge.proofs.ranks.side_of.Statement.{statement}
-use Rattle.judge.proofs.ranks.side_of.Tie as tie
+use Rattle.degree_ranks.proofs.side_of.Statement.{statement}
+use Rattle.degree_ranks.proofs.side_of.Tie as tie
 
 returns : tie.Need-returns
 returns c = simp (ne-eqb _ _ (c .if1 .taken))

@@ -1,0 +1,2 @@
+-- What the search for ranks and witnesses needs of the workspace.
+pub mod Ready
