@@ -1,5 +1,6 @@
--- What the search for ranks and witnesses needs of the workspace.
---   Ready o n ws s p q   a workspace with the row of each point of n taps in its place, and three masks of such points
+-- What the search for ranks and witnesses needs of the workspace and of each mask.
+--   Ready o n ws   a workspace with the row of each point of n taps in its place, the columns in the order o
+--   Marks n s      a mask of points of n taps
 use mathlib.Core.Path.{_≡_}
 use mathlib.Core.List.{List}
 use Prim.Native.Nat.{ℕ, _≤_}
@@ -11,15 +12,14 @@ use Rattle.order.specs.Order.{Graded}
 use Rattle.gf2.specs.Packed.{unpacked}
 use Rattle.matrix.specs.Workspace.{exponents, RowsFrom}
 
--- the rows are in their places, and the masks mark points of n taps
-pub record Ready (o : List ℕ) (n : ℕ) (ws s p q : List ℕ) : Type 0 where
-  pub workspace : length ws ≡ 8192
-  pub set : length s ≡ 512
-  pub one : length p ≡ 512
-  pub zero : length q ≡ 512
+-- the row of each point of n taps is in its place, with its columns in a graded order
+pub record Ready (o : List ℕ) (n : ℕ) (ws : List ℕ) : Type 0 where
+  pub long : length ws ≡ 8192
   pub ordered : Graded o
   pub small : n ≤ 9
-  pub inside-set : Inside (size n) (points s)
-  pub inside-one : Inside (size n) (points p)
-  pub inside-zero : Inside (size n) (points q)
   pub rows : RowsFrom (exponents o n) n (unpacked ws) 0
+
+-- a mask of 512 bytes that marks points of n taps
+pub record Marks (n : ℕ) (s : List ℕ) : Type 0 where
+  pub long : length s ≡ 512
+  pub inside : Inside (size n) (points s)

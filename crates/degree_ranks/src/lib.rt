@@ -5,19 +5,16 @@ ghost use mathlib.Core.List.{map};
 ghost use mathlib.Core.Option.{some};
 ghost use Prim.Native.Nat.{ℕ, _+_, _≤_};
 ghost use lib.Dec.{leb};
-ghost use lib.ListN.{length, getD, drop};
-ghost use Rattle.cube.specs.NumberLists.{below, Inside};
-ghost use Rattle.cube.specs.Cube.{size as sizeOf};
+ghost use lib.ListN.{getD, drop};
+ghost use Rattle.cube.specs.NumberLists.{below};
 ghost use Rattle.cube.specs.Mask.{points, byte};
-ghost use Rattle.order.specs.Order.{Graded};
 ghost use Rattle.gf2.specs.Packed.{unpacked};
 ghost use Rattle.matrix.specs.Matrix.{eliminated, rankOf};
-ghost use Rattle.matrix.specs.Workspace.{exponents, RowsFrom};
 ghost use Rattle.immunity.specs.First.{first};
 ghost use Rattle.immunity.specs.Judgement.{summed};
 ghost use Rattle.immunity.specs.Ranks.{noRanks, ranksIf, ranksIn, ranksUpTo, additionsOf, partDiffers, differ};
 ghost use Rattle.filter.specs.Sides.{pair};
-ghost use Rattle.degree_ranks.specs.Ready.{Ready};
+ghost use Rattle.degree_ranks.specs.Ready.{Ready, Marks};
 use gf2::COLUMNS;
 use gf2::basis::count_below;
 use gf2::basis::sum_below;
@@ -42,7 +39,7 @@ pub struct FoundRanks {
 
 // The ranks of the points of one mask at each degree up to `n`, and all 0 past it: one elimination finds them all.
 fn mask_ranks(ws: &mut [u64], order: &[u16], mask: &[u8], n: usize) -> MaskRanks
-    requires { ⌜ (length (now ws) ≡ 8192) × (length (now mask) ≡ 512) × Graded (now order) × (n ≤ 9) × Inside (sizeOf n) (points (now mask)) × RowsFrom (exponents (now order) n) n (unpacked (now ws)) 0 ⌝ }
+    requires { ⌜ Ready (now order) n (now ws) × Marks n (now mask) ⌝ }
     ensures { λ r. ⌜ ((d : ℕ) → d ≤ n → getD (r .ranks) d 0 ≡ rankOf (now (order .entry)) n d (points (now (mask .entry)))) ⌝ }
     ensures { λ r. ⌜ r .additions ≡ summed (λ d. eliminated (now (order .entry)) n d (points (now (mask .entry))) .additions) (below (n + 1)) ⌝ }
     ensures { λ r. ⌜ (r .additions ≤ 1342177280) × (drop 512 (unpacked (now (ws .exit))) ≡ drop 512 (unpacked (now (ws .entry)))) ⌝ }
@@ -93,7 +90,7 @@ pub fn all_ranks(
     zero: &[u8],
     n: usize,
 ) -> FoundRanks
-    requires { ⌜ Ready (now order) n (now ws) (now set) (now one) (now zero) ⌝ }
+    requires { ⌜ Ready (now order) n (now ws) × Marks n (now set) × Marks n (now one) × Marks n (now zero) ⌝ }
     ensures { λ r. ⌜ r .ranks ≡ map (ranksUpTo (now (order .entry)) n (points (now (set .entry))) (pair (points (now (one .entry))) (points (now (zero .entry))))) (below 10) ⌝ }
     ensures { λ r. ⌜ r .additions ≡ summed (λ d. additionsOf (now (order .entry)) n d (points (now (set .entry))) (pair (points (now (one .entry))) (points (now (zero .entry))))) (below (n + 1)) ⌝ }
     ensures { λ r. ⌜ drop 512 (unpacked (now (ws .exit))) ≡ drop 512 (unpacked (now (ws .entry))) ⌝ }

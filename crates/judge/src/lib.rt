@@ -12,7 +12,7 @@ ghost use Rattle.order.specs.BuiltIn.{graded};
 ghost use Rattle.filter.specs.Sides.{pair};
 ghost use Rattle.immunity.specs.Ranks.{noRanks};
 ghost use Rattle.immunity.specs.Witness.{newPoint, witnessAt};
-ghost use Rattle.degree_ranks.specs.Ready.{Ready};
+ghost use Rattle.degree_ranks.specs.Ready.{Ready, Marks};
 ghost use Rattle.judge.specs.declared.Finding.the-variants.{Refused};
 ghost use Rattle.judge.specs.Judge.{judgeChecks, judgeOutcome, JudgeContract};
 use cube::POINTS;
@@ -153,7 +153,8 @@ fn judge_points(
     }
 }
 
-// The witnesses against the parts `p` and `q` of the set at degree `d`, where `r` are the ranks, are written.
+// The witnesses against the parts `p` and `q` of the set at degree `d`, where `r` are the ranks, are written. The
+// workspace is scratch then.
 fn write_witnesses(
     ws: &mut [u64],
     order: &[u16],
@@ -166,7 +167,7 @@ fn write_witnesses(
     one: &mut [u8],
     zero: &mut [u8],
 )
-    requires { ⌜ Ready (now order) n (now ws) (now set) (now p) (now q) × (d ≤ n) × (length (now one) ≡ 512) × (length (now zero) ≡ 512)
+    requires { ⌜ Ready (now order) n (now ws) × Marks n (now set) × Marks n (now p) × Marks n (now q) × (d ≤ n) × (length (now one) ≡ 512) × (length (now zero) ≡ 512)
         × (r .set ≡ r .one → newPoint (now order) n d (points (now set)) (points (now p)) ≡ none)
         × (r .set ≡ r .zero → newPoint (now order) n d (points (now set)) (points (now q)) ≡ none) ⌝ }
     ensures { λ _. ⌜ now (one .exit) ≡ mask (witnessAt (now (order .entry)) n d (points (now (set .entry))) (points (now (p .entry)))) ⌝ }

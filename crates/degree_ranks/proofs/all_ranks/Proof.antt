@@ -17,25 +17,31 @@ use Rattle.degree_ranks.proofs.all_ranks.Tie as tie
 
 -- the workspace is ready after the set was taken
 ready-one : (c : tie.After-mask-ranks) → let a = c .before .before .before .before .before .before .before .args in
-    Ready (a .order .now) (a .n) (c .mask-ranks .last .0) (a .set .now) (a .one .now) (a .zero .now)
+    Ready (a .order .now) (a .n) (c .mask-ranks .last .0)
 ready-one c =
     let s = c .before .before .before .before .before .before .before in
-    ready-after (s .pre) (c .mask-ranks .last .0) (c .mask-ranks .kept .0) (c .mask-ranks .ensures .1 .1 .1)
+    ready-after (c .mask-ranks .last .0) (c .mask-ranks .kept .0) (c .mask-ranks .ensures .1 .1 .1) (s .pre .0)
 
 -- and after part 1 was
 ready-zero : (c : tie.After-mask-ranks2) → let a = c .before .before .before .before .before .before .before .before .before .before .before .args in
-    Ready (a .order .now) (a .n) (c .mask-ranks2 .last .0) (a .set .now) (a .one .now) (a .zero .now)
-ready-zero c = ready-after (ready-one (c .before .before .before .before)) (c .mask-ranks2 .last .0) (c .mask-ranks2 .kept .0) (c .mask-ranks2 .ensures .1 .1 .1)
+    Ready (a .order .now) (a .n) (c .mask-ranks2 .last .0)
+ready-zero c = ready-after (c .mask-ranks2 .last .0) (c .mask-ranks2 .kept .0) (c .mask-ranks2 .ensures .1 .1 .1) (ready-one (c .before .before .before .before))
 
 mask-ranks-requires-2 : tie.Need-mask-ranks-requires-2
 mask-ranks-requires-2 c κs =
-    let r = ready-one (c .before .before .before) in
-    (r .workspace, r .one, r .ordered, r .small, r .inside-one, r .rows)
+    let s = c .before .before .before in
+    (ready-one s, s .before .before .before .before .before .before .before .pre .2)
 
 mask-ranks-requires-3 : tie.Need-mask-ranks-requires-3
 mask-ranks-requires-3 c κs =
-    let r = ready-zero (c .before .before .before) in
-    (r .workspace, r .zero, r .ordered, r .small, r .inside-zero, r .rows)
+    let p = c .before .before .before in
+    (ready-zero p, p .before .before .before .before .before .before .before .before .before .before .before .pre .3)
+
+by-degree-requires : tie.Need-by-degree-requires
+by-degree-requires c κs =
+    let z = c .before .before .before .before .before in
+    let s = z .before .before .before .before .before .before .before .before in
+    s .before .before .before .before .before .before .before .pre .0 .small
 
 add-t21 : tie.Need-add-t21
 add-t21 c =
@@ -80,7 +86,7 @@ all-ranks-spec =
     (λ c κs. search needs)
     mask-ranks-requires-2
     mask-ranks-requires-3
-    (λ c κs. search needs)
+    by-degree-requires
     (λ c. search needs)
     add-t21
     (λ c. search needs)

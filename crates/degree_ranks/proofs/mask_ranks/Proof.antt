@@ -52,7 +52,7 @@ eliminate-tallied-requires : tie.Need-eliminate-tallied-requires Inv-loop μ-loo
 unfolding zeros
 eliminate-tallied-requires c κs =
     let s = c .before .before .before .before .before .before in
-    (s .pre .0, length-replicate {A = ℕ} 512 0, refl, s .pre .1)
+    (s .pre .0 .long, length-replicate {A = ℕ} 512 0, refl, s .pre .1 .long)
 
 loop-holds : tie.Need-loop-holds Inv-loop μ-loop
 loop-holds c =
@@ -72,7 +72,7 @@ long-tally c = c .eliminate-tallied .kept .1 .1 .0 ∙ length-replicate {A = ℕ
 column-count-requires : tie.Need-column-count-requires Inv-loop μ-loop
 column-count-requires c κs =
     let s = c .before .before .before .before .before .before .before .before .before .before .before .before .before in
-    (s .pre .2, s .pre .3)
+    (s .pre .0 .ordered, s .pre .0 .small)
 
 slice-aggregate-count-below : tie.Need-slice-aggregate-count-below Inv-loop μ-loop
 slice-aggregate-count-below c = sym (long-pivots (c .before .before .before .before .before .before .before .before))
@@ -94,7 +94,7 @@ slice-aggregate-sum-below c = sym (long-tally (c .before .before .before .before
 few-columns : (c : tie.After-column-count Inv-loop μ-loop) → c .column-count .result ≤ 512
 few-columns c =
     let s = c .before .before .before .before .before .before .before .before .before .before .before .before .before .before in
-    rw (c .column-count .ensures) (length-columns (s .pre .2) _ _)
+    rw (c .column-count .ensures) (length-columns (s .pre .0 .ordered) _ _)
 
 sum-below-requires : tie.Need-sum-below-requires Inv-loop μ-loop
 sum-below-requires c κs =
@@ -110,7 +110,7 @@ add-additions : tie.Need-add-additions Inv-loop μ-loop
 add-additions c =
     let l = c .before .before .before .before .before .before in
     let s = l .before .before .before .before .before .before .before .before .before .before .before .before in
-    omega (arith, few-added c, l .loop .inv .1, s .pre .3)
+    omega (arith, few-added c, l .loop .inv .1, s .pre .0 .small)
 
 loop-again : tie.Need-loop-again Inv-loop μ-loop
 loop-again c =
@@ -129,19 +129,19 @@ loop-again c =
     let tally = e .eliminate-tallied .last .1 .1 .0 in
     let kept = e .eliminate-tallied .result in
     let h = e .eliminate-tallied .ensures in
-    let long : length ws ≡ 8192 = e .eliminate-tallied .kept .0 ∙ s .pre .0 in
+    let long : length ws ≡ 8192 = e .eliminate-tallied .kept .0 ∙ s .pre .0 .long in
     let rank : q .count-below .result ≡ rankOf o n d (points (s .args .mask .now)) =
     q .count-below .ensures .0 ∙ ap (λ m. countTo m (take kept pivots)) (k .column-count .ensures)
-    ∙ tallied-rank (s .pre .2) n d (s .pre .3) up (unpacked (s .args .ws .now)) (s .pre .5) _ (s .pre .4) (unpacked ws) kept tally (h .0)
+    ∙ tallied-rank (s .pre .0 .ordered) n d (s .pre .0 .small) up (unpacked (s .args .ws .now)) (s .pre .0 .rows) _ (s .pre .1 .inside) (unpacked ws) kept tally (h .0)
     pivots (long-pivots e) (length-rows 1024 ws) (λ j g. length-row ws j long (rw (length-rows 1024 ws) at g)) (h .1 .0 .0) (h .1 .1) in
     let sum : c .sum-below .result ≡ addedAt o n (s .args .mask .now) d =
     c .sum-below .ensures .0 ∙ ap (λ m. sumTo m tally) (k .column-count .ensures)
-    ∙ tallied-additions (s .pre .2) n d (s .pre .3) up (unpacked (s .args .ws .now)) (s .pre .5) _ (s .pre .4) (unpacked ws) kept tally (h .0) in (
+    ∙ tallied-additions (s .pre .0 .ordered) n d (s .pre .0 .small) up (unpacked (s .args .ws .now)) (s .pre .0 .rows) _ (s .pre .1 .inside) (unpacked ws) kept tally (h .0) in (
       omega arith,
       omega (arith, few-added c, i .1),
       length-set (l .loop .ranks) d _ ∙ i .2,
       below-more _ d (λ j g. getD-set-other (l .loop .ranks) d j _ 0 (omega arith) ∙ i .3 j g)
-          (getD-set-same (l .loop .ranks) d _ 0 (omega (arith, i .2, up, s .pre .3)) ∙ rank),
+          (getD-set-same (l .loop .ranks) d _ 0 (omega (arith, i .2, up, s .pre .0 .small)) ∙ rank),
       added _ n d (l .loop .additions) _ up sum (i .4),
     )
 
@@ -154,7 +154,7 @@ returns c =
       λ d low. i .3 d (omega arith),
       (
         added-all _ _ (l .loop .d) _ (c .loop-test .left) (i .4),
-        (omega (arith, i .1, s .pre .3), e .eliminate-tallied .ensures .0 .stays),
+        (omega (arith, i .1, s .pre .0 .small), e .eliminate-tallied .ensures .0 .stays),
       ),
     )
 

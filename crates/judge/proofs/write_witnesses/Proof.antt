@@ -4,18 +4,22 @@ use Rattle.degree_ranks.proofs.Ready.{ready-after}
 use Rattle.judge.proofs.write_witnesses.Statement.{statement}
 use Rattle.judge.proofs.write_witnesses.Tie as tie
 
+-- the start, from the witness of side 1
+abbrev start : tie.After-write-side → tie.Start
+start w = w .before .before .before .before .before .before .before .before .before .before .before
+
 write-side-requires : tie.Need-write-side-requires
 write-side-requires c κs =
     let s = c .before .before .before .before .before .before .before .before .before .before in
-    let r = s .pre .0 in
-    (r .workspace, r .set, r .one, s .pre .2, r .ordered, r .small, s .pre .1, r .inside-set, r .inside-one, r .rows, λ h. s .pre .4 (eqb-true _ _ (not-false _ h)))
+    let (r, set, one, zero, low, one-long, zero-long, none-one, none-zero) = s .pre in
+    (r .long, set .long, one .long, one-long, r .ordered, r .small, low, set .inside, one .inside, r .rows, λ h. none-one (eqb-true _ _ (not-false _ h)))
 
 write-side-requires-2 : tie.Need-write-side-requires-2
 write-side-requires-2 c κs =
     let w = c .before .before .before .before .before .before .before in
-    let s = w .before .before .before .before .before .before .before .before .before .before .before in
-    let r = ready-after (s .pre .0) (w .write-side .last .0) (w .write-side .kept .0) (w .write-side .ensures .1) in
-    (r .workspace, r .set, r .zero, s .pre .3, r .ordered, r .small, s .pre .1, r .inside-set, r .inside-zero, r .rows, λ h. s .pre .5 (eqb-true _ _ (not-false _ h)))
+    let (r₀, set, one, zero, low, one-long, zero-long, none-one, none-zero) = start w .pre in
+    let r = ready-after (w .write-side .last .0) (w .write-side .kept .0) (w .write-side .ensures .1) r₀ in
+    (r .long, set .long, zero .long, zero-long, r .ordered, r .small, low, set .inside, zero .inside, r .rows, λ h. none-zero (eqb-true _ _ (not-false _ h)))
 
 returns : tie.Need-returns
 returns c =
