@@ -1,2 +1,3 @@
--- What the search for ranks and witnesses needs of the workspace.
+-- Numbers for each degree, and what the search for ranks and witnesses needs of the workspace.
+pub mod Cut
 pub mod Ready

@@ -4,16 +4,17 @@ ghost use mathlib.Core.Path.{_≡_};
 ghost use mathlib.Core.List.{map};
 ghost use mathlib.Core.Option.{some};
 ghost use Prim.Native.Nat.{ℕ, _+_, _≤_};
-ghost use lib.Dec.{leb};
-ghost use lib.ListN.{getD, drop};
+ghost use lib.ListN.{length, getD, drop};
 ghost use Rattle.cube.specs.NumberLists.{below};
 ghost use Rattle.cube.specs.Mask.{points, byte};
+ghost use Rattle.order.specs.Order.{Graded};
 ghost use Rattle.gf2.specs.Packed.{unpacked};
-ghost use Rattle.matrix.specs.Matrix.{eliminated, rankOf};
+ghost use Rattle.gf2.specs.Prefix.{AtMost};
+ghost use Rattle.filter.specs.Sides.{pair};
 ghost use Rattle.immunity.specs.First.{first};
 ghost use Rattle.immunity.specs.Judgement.{summed};
-ghost use Rattle.immunity.specs.Ranks.{noRanks, ranksIf, ranksIn, ranksUpTo, additionsOf, partDiffers, differ};
-ghost use Rattle.filter.specs.Sides.{pair};
+ghost use Rattle.immunity.specs.Ranks.{noRanks, ranksIn, ranksUpTo, additionsOf, partDiffers, differ};
+ghost use Rattle.degree_ranks.specs.Cut.{upTo, columnCounts, rankCut, additionsCut};
 ghost use Rattle.degree_ranks.specs.Ready.{Ready, Marks};
 use gf2::COLUMNS;
 use gf2::basis::count_below;
@@ -37,11 +38,26 @@ pub struct FoundRanks {
     pub additions: u32,
 }
 
-// The ranks of the points of one mask at each degree up to `n`, and all 0 past it: one elimination finds them all.
-fn mask_ranks(ws: &mut [u64], order: &[u16], mask: &[u8], n: usize) -> MaskRanks
-    requires { ⌜ Ready (now order) n (now ws) × Marks n (now mask) ⌝ }
-    ensures { λ r. ⌜ ((d : ℕ) → d ≤ n → getD (r .ranks) d 0 ≡ rankOf (now (order .entry)) n d (points (now (mask .entry)))) ⌝ }
-    ensures { λ r. ⌜ r .additions ≡ summed (λ d. eliminated (now (order .entry)) n d (points (now (mask .entry))) .additions) (below (n + 1)) ⌝ }
+// The number of columns of `n` taps at each degree up to `n`, and 0 past it.
+fn column_counts(order: &[u16], n: usize) -> [u16; 10]
+    requires { ⌜ Graded (now order) × (n ≤ 9) ⌝ }
+    ensures { λ r. ⌜ r ≡ columnCounts (now (order .entry)) n ⌝ }
+{
+    let mut columns = [0u16; DEGREES];
+    let mut d: usize = 0;
+    while d <= n {
+        columns[d] = column_count(order, n, d) as u16;
+        d += 1;
+    }
+    columns
+}
+
+// The ranks of the points of one mask at each degree up to `n`, and 0 past it, where `columns` has the number of columns
+// of each: one elimination finds them all. The first 512 rows of the workspace are scratch, and the others stay.
+fn mask_ranks(ws: &mut [u64], mask: &[u8], columns: [u16; 10], n: usize) -> MaskRanks
+    requires { ⌜ (length (now ws) ≡ 8192) × (length (now mask) ≡ 512) × AtMost 512 columns × (n ≤ 9) ⌝ }
+    ensures { λ r. ⌜ r .ranks ≡ map (upTo n (rankCut (unpacked (now (ws .entry))) (points (now (mask .entry))) columns)) (below 10) ⌝ }
+    ensures { λ r. ⌜ r .additions ≡ summed (additionsCut (unpacked (now (ws .entry))) (points (now (mask .entry))) columns) (below (n + 1)) ⌝ }
     ensures { λ r. ⌜ (r .additions ≤ 1342177280) × (drop 512 (unpacked (now (ws .exit))) ≡ drop 512 (unpacked (now (ws .entry)))) ⌝ }
 {
     let mut pivots = [0u16; COLUMNS];
@@ -51,18 +67,17 @@ fn mask_ranks(ws: &mut [u64], order: &[u16], mask: &[u8], n: usize) -> MaskRanks
     let mut additions: u32 = 0;
     let mut d: usize = 0;
     while d <= n {
-        let columns = column_count(order, n, d);
-        ranks[d] = count_below(&pivots, kept, columns) as u16;
-        additions += sum_below(&tally, columns);
+        let count = columns[d] as usize;
+        ranks[d] = count_below(&pivots, kept, count) as u16;
+        additions += sum_below(&tally, count);
         d += 1;
     }
     MaskRanks { ranks, additions }
 }
 
-// The ranks of three masks at each degree up to `n`, side by side, and all 0 past it.
-fn by_degree(set: [u16; 10], one: [u16; 10], zero: [u16; 10], n: usize) -> [Ranks; 10]
-    requires { ⌜ n ≤ 9 ⌝ }
-    ensures { λ r. ⌜ r ≡ map (λ d. ranksIf (leb d n) (ranksIn set (pair one zero) d)) (below 10) ⌝ }
+// The ranks of three masks at each degree, side by side.
+fn by_degree(set: [u16; 10], one: [u16; 10], zero: [u16; 10]) -> [Ranks; 10]
+    ensures { λ r. ⌜ r ≡ map (ranksIn set (pair one zero)) (below 10) ⌝ }
 {
     let mut ranks = [Ranks {
         set: 0,
@@ -70,7 +85,7 @@ fn by_degree(set: [u16; 10], one: [u16; 10], zero: [u16; 10], n: usize) -> [Rank
         zero: 0,
     }; DEGREES];
     let mut d: usize = 0;
-    while d <= n {
+    while d < DEGREES {
         ranks[d] = Ranks {
             set: set[d],
             one: one[d],
@@ -81,7 +96,8 @@ fn by_degree(set: [u16; 10], one: [u16; 10], zero: [u16; 10], n: usize) -> [Rank
     ranks
 }
 
-// The ranks of the points of three masks at each degree up to `n`, and all 0 past it.
+// The ranks of the points of three masks at each degree up to `n`, and all 0 past it; public for Judge alone. The first
+// 512 rows of the workspace are scratch, and the others, the rows of points, stay.
 pub fn all_ranks(
     ws: &mut [u64],
     order: &[u16],
@@ -95,14 +111,15 @@ pub fn all_ranks(
     ensures { λ r. ⌜ r .additions ≡ summed (λ d. additionsOf (now (order .entry)) n d (points (now (set .entry))) (pair (points (now (one .entry))) (points (now (zero .entry))))) (below (n + 1)) ⌝ }
     ensures { λ r. ⌜ drop 512 (unpacked (now (ws .exit))) ≡ drop 512 (unpacked (now (ws .entry))) ⌝ }
 {
-    let s = mask_ranks(ws, order, set, n);
-    let p = mask_ranks(ws, order, one, n);
-    let q = mask_ranks(ws, order, zero, n);
+    let columns = column_counts(order, n);
+    let s = mask_ranks(ws, set, columns, n);
+    let p = mask_ranks(ws, one, columns, n);
+    let q = mask_ranks(ws, zero, columns, n);
     let set_ranks = s.ranks;
     let one_ranks = p.ranks;
     let zero_ranks = q.ranks;
     FoundRanks {
-        ranks: by_degree(set_ranks, one_ranks, zero_ranks, n),
+        ranks: by_degree(set_ranks, one_ranks, zero_ranks),
         additions: s.additions + p.additions + q.additions,
     }
 }
@@ -117,7 +134,8 @@ fn part_differs(r: Ranks) -> bool
     r.set != r.zero
 }
 
-// The first degree up to `n` at which the rank of a part is not that of the set; `n` where there is none.
+// The first degree up to `n` at which the rank of a part is not that of the set, `n` where there is none; public for
+// Judge alone.
 pub fn first_difference(ranks: [Ranks; 10], n: usize) -> usize
     requires { ⌜ n ≤ 9 ⌝ }
     ensures { λ r. ⌜ ((k : ℕ) → first (λ d. differ (getD ranks d noRanks)) (below (n + 1)) ≡ some k → r ≡ k) ⌝ }
@@ -134,7 +152,7 @@ pub fn first_difference(ranks: [Ranks; 10], n: usize) -> usize
     n
 }
 
-// The side of the reported degree: 1 if the rank of part 1 is not that of the set, else 0.
+// The side of the reported degree, 1 if the rank of part 1 is not that of the set, else 0; public for Judge alone.
 pub fn side_of(here: Ranks) -> u8
     ensures { λ s. ⌜ s ≡ byte (partDiffers here 1) ⌝ }
 {

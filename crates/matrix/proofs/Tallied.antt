@@ -3,34 +3,29 @@
 --   eliminates-all-none    no point is taken yet
 --   eliminates-all-yes     the next number is a point of the mask
 --   eliminates-all-no      it is not
---   tallied-rank           the pivots below the columns of a degree are as many as the rank
---   tallied-additions      the tally of these columns sums to the additions
+--   tallied-kept           the pivots below a column are as many as the rows kept of the columns before it
 use mathlib.Core.Path.{_≡_, refl, sym, ap, ap₂, _∙_}
 use mathlib.Core.Bool.{true, false}
 use mathlib.Core.List.{List, []}
 use Prim.Native.Nat.{ℕ, _+_, _≤_, _<_}
 use native.Mathlib.Nat.{le-refl}
 use native.Mathlib.Omega.{arith}
-use lib.ListN.{length, getD, set, take, length-map}
+use lib.ListN.{length, getD, set, take}
 use lib.Seq.{getD-set-same, take-set-le, length-take-le, getD-drop}
-use Rattle.cube.specs.NumberLists.{upFrom, select, Inside}
-use Rattle.cube.specs.Cube.{size}
+use Rattle.cube.specs.NumberLists.{upFrom, select}
 use Rattle.cube.specs.Mask.{member}
-use Rattle.order.specs.Order.{Graded, columns}
 use Rattle.cube.proofs.Masks.{select-yes, select-no}
 use Rattle.gf2.specs.Vector.{Row, Each}
 use Rattle.gf2.specs.Elimination.{pivot, isZero, count, reduce, keepUnless, Elimination, takePoint, takePoints, eliminate}
-use Rattle.gf2.specs.Packed.{rowOf, zeros, cut, padded, oneMoreUnless, Pivots}
+use Rattle.gf2.specs.Packed.{rowOf, zeros, cut, oneMoreUnless, Pivots}
 use Rattle.gf2.specs.Prefix.{keptTo, countTo, sumTo, Tallies}
 use Rattle.gf2.proofs.Each.{each-taken}
 use Rattle.gf2.proofs.Reducing.{reduce-few}
 use Rattle.gf2.proofs.Kept.{eliminate-snoc}
 use Rattle.gf2.proofs.Prefix.{kept-cut, left-cut, length-kept, pivots-taken}
 use Rattle.gf2.proofs.Tally.{sum-zeros, tallies-reduces}
-use Rattle.matrix.specs.Matrix.{eliminated, rankOf}
-use Rattle.matrix.specs.Workspace.{exponents, RowsFrom, stored, Takes, TakesAll, EliminatesAll}
+use Rattle.matrix.specs.Workspace.{stored, Takes, TakesAll, EliminatesAll}
 use Rattle.matrix.proofs.Taking.{takes, pointsTo}
-use Rattle.matrix.proofs.Stored.{stored-elimination}
 
 -- a row copied behind the kept rows, reduced with a tally, and kept or not
 pub takes-all : (t₀ t₁ t₂ : List Row) (k k′ : ℕ) (v : Row) (xs xs′ : List ℕ) → k < length t₀ → k < 512
@@ -85,19 +80,11 @@ module _ (t : List Row) (b : List ℕ) where
   pub eliminates-all-no : (t′ : List Row) (a k : ℕ) (xs : List ℕ) → EliminatesAll t t′ (pointsTo b a) k xs → member b a ≡ false → EliminatesAll t t′ (pointsTo b (a + 1)) k xs
   eliminates-all-no t′ a k xs h e = rw (select-no (member b) a e) h
 
-module _ {o : List ℕ} (g : Graded o) (n d : ℕ) (s : n ≤ 9) (low : d ≤ n) (t : List Row) (there : RowsFrom (exponents o n) n t 0) (ps : List ℕ) (inside : Inside (size n) ps)
-    (t′ : List Row) (k : ℕ) (xs : List ℕ) (h : EliminatesAll t t′ ps k xs)
-  where
-    -- the pivots below the columns of a degree are as many as the rank
-    pub tallied-rank : (pivots : List ℕ) → length pivots ≡ 512 → length t′ ≡ 1024 → ((j : ℕ) → j < length t′ → length (rowOf t′ j) ≡ 512) → k ≤ 512 → Pivots pivots t′ k
-        → countTo (length (columns o n d)) (take k pivots) ≡ rankOf o n d ps
-    tallied-rank pivots l m long small p =
-        let c : ℕ = length (columns o n d) in
-        let ones : Each (λ r. pivot r < length r) (take k t′) =
-        each-taken (λ r. pivot r < length r) [] k t′ (omega arith) .1 (λ j i. omega (arith, p j i .0, p j i .1, long j (omega arith))) in
-        ap (countTo c) (sym (pivots-taken pivots t′ k (omega arith) (omega arith) p)) ∙ sym (length-kept c (take k t′) ones) ∙ ap length (sym (h .kept c))
-        ∙ ap (λ (x : Elimination). length (x .kept)) (stored-elimination g n d s low t there ps inside) ∙ length-map (eliminated o n d ps .kept) (padded 512)
-
-    -- the tally of these columns sums to the additions
-    pub tallied-additions : sumTo (length (columns o n d)) xs ≡ eliminated o n d ps .additions
-    tallied-additions = sym (h .additions (length (columns o n d))) ∙ ap (λ (x : Elimination). x .additions) (stored-elimination g n d s low t there ps inside)
+-- the pivots below c are as many as the rows kept of the first c columns
+pub tallied-kept : (t : List Row) (ps : List ℕ) (t′ : List Row) (k : ℕ) (xs : List ℕ) → EliminatesAll t t′ ps k xs
+    → (pivots : List ℕ) → length pivots ≡ 512 → length t′ ≡ 1024 → ((j : ℕ) → j < length t′ → length (rowOf t′ j) ≡ 512) → k ≤ 512 → Pivots pivots t′ k
+    → (c : ℕ) → countTo c (take k pivots) ≡ length (eliminate (stored t c) ps .kept)
+tallied-kept t ps t′ k xs h pivots l m long small p c =
+    let ones : Each (λ r. pivot r < length r) (take k t′) =
+    each-taken (λ r. pivot r < length r) [] k t′ (omega arith) .1 (λ j i. omega (arith, p j i .0, p j i .1, long j (omega arith))) in
+    ap (countTo c) (sym (pivots-taken pivots t′ k (omega arith) (omega arith) p)) ∙ sym (length-kept c (take k t′) ones) ∙ ap length (sym (h .kept c))

@@ -1,33 +1,28 @@
--- One elimination serves every degree: its pivots below a degree's columns count the rank (tallied-rank), its tally there the additions.
+-- One elimination serves every degree: its pivots below a number of columns count the rank there, and its tally there sums to the additions.
 use borrow.Author.Needs.{needs}
 use mathlib.Core.Path.{_≡_, refl, sym, ap, _∙_}
 use mathlib.Core.List.{List}
 use Prim.Native.Nat.{ℕ, _+_, _*_, _-_, _≤_, _<_}
 use native.Mathlib.Omega.{arith}
-use lib.ListN.{length, getD, take, length-replicate, length-set}
-use lib.Seq.{getD-set-same, getD-set-other}
-use borrow.Author.Count.{below-more}
+use lib.ListN.{length, getD, take, length-replicate}
 use Rattle.cube.specs.NumberLists.{below}
-use Rattle.cube.specs.Mask.{points}
-use Rattle.order.specs.Order.{columns}
-use Rattle.order.proofs.DegreeColumns.{length-columns}
 use Rattle.gf2.specs.Packed.{unpacked, zeros}
 use Rattle.gf2.specs.Prefix.{countTo, sumTo}
 use Rattle.gf2.proofs.Rows.{length-rows, length-row}
-use Rattle.matrix.specs.Matrix.{eliminated, rankOf}
-use Rattle.matrix.proofs.Tallied.{tallied-rank, tallied-additions}
+use Rattle.matrix.proofs.Tallied.{tallied-kept}
 use Rattle.immunity.specs.Judgement.{summed}
-use Rattle.degree_ranks.proofs.Degrees.{degreesFrom, degrees-all, degrees-here, degrees-none}
+use Rattle.degree_ranks.specs.Cut.{upTo}
+use Rattle.degree_ranks.proofs.Degrees.{degreesFrom, degrees-all, degrees-here, degrees-none, ValuesTo, values-none, values-next, values-all, up-to-here, up-to-past, up-to-same, summed-same}
 use Rattle.degree_ranks.proofs.mask_ranks.Statement.{statement}
 use Rattle.degree_ranks.proofs.mask_ranks.Tie as tie
 
--- the additions at a degree
-abbrev addedAt : List ℕ → ℕ → List ℕ → ℕ → ℕ
-addedAt o n b d = eliminated o n d (points b) .additions
+-- the number of pivots below the columns of a degree
+abbrev counted : List ℕ → ℕ → List ℕ → ℕ → ℕ
+counted cs k pivots d = countTo (getD cs d 0) (take k pivots)
 
--- the ranks at the degrees below d
-abbrev RanksBelow : List ℕ → ℕ → List ℕ → ℕ → List ℕ → Type 0
-RanksBelow o n b d xs = (k : ℕ) → k < d → getD xs k 0 ≡ rankOf o n k (points b)
+-- the sum of the tally there
+abbrev tallied : List ℕ → List ℕ → ℕ → ℕ
+tallied cs tally d = sumTo (getD cs d 0) tally
 
 -- one degree more is added
 added : (t : ℕ → ℕ) (n d m x : ℕ) → d ≤ n → x ≡ t d → m + summed t (degreesFrom n d) ≡ summed t (below (n + 1))
@@ -41,120 +36,106 @@ unfolding summed
 added-all t n d m l h = let step = ap (summed t) (degrees-none n d l) in omega (arith, step, h)
 
 abbrev Inv-loop : tie.InvT-loop
-Inv-loop ws order mask n pivots tally kept ranks₀ additions₀ d₀ ranks additions d =
-    (d ≤ n + 1) × (additions ≤ d * 134217728) × (length ranks ≡ 10) × RanksBelow order n mask d ranks
-    × (additions + summed (addedAt order n mask) (degreesFrom n d) ≡ summed (addedAt order n mask) (below (n + 1)))
+Inv-loop ws mask n columns pivots tally kept ranks₀ additions₀ d₀ ranks additions d =
+    (d ≤ n + 1) × (additions ≤ d * 134217728) × ValuesTo 0 (upTo n (counted columns kept pivots)) d ranks
+    × (additions + summed (tallied columns tally) (degreesFrom n d) ≡ summed (tallied columns tally) (below (n + 1)))
 
 abbrev μ-loop : tie.MeasureT-loop
-μ-loop ws order mask n pivots tally kept ranks₀ additions₀ d₀ ranks additions d = n + 1 - d
+μ-loop ws mask n columns pivots tally kept ranks₀ additions₀ d₀ ranks additions d = n + 1 - d
+
+-- the start, from where the rows were taken
+abbrev start : tie.After-eliminate-tallied Inv-loop μ-loop → tie.Start Inv-loop μ-loop
+start e = e .before .before .before .before .before .before
+
+-- where the rows were taken, from the loop
+abbrev taken : tie.At-loop Inv-loop μ-loop → tie.After-eliminate-tallied Inv-loop μ-loop
+taken l = l .before .before .before .before .before
 
 eliminate-tallied-requires : tie.Need-eliminate-tallied-requires Inv-loop μ-loop
 unfolding zeros
 eliminate-tallied-requires c κs =
-    let s = c .before .before .before .before .before .before in
-    (s .pre .0 .long, length-replicate {A = ℕ} 512 0, refl, s .pre .1 .long)
+    let s = c .before .before .before .before .before in
+    (s .pre .0, length-replicate {A = ℕ} 512 0, refl, s .pre .1)
 
 loop-holds : tie.Need-loop-holds Inv-loop μ-loop
 loop-holds c =
     let e = c .before .before .before .before in
-    let a = e .before .before .before .before .before .before .before .args in
-    let step = ap (summed (addedAt (a .order .now) (a .n) (a .mask .now))) (degrees-all (a .n)) in
-    (omega arith, omega arith, length-replicate {A = ℕ} 10 0, λ k l. absurd (omega arith), omega (arith, step))
+    let step = ap (summed (tallied (start e .args .t3) (e .eliminate-tallied .last .1 .1 .0))) (degrees-all (start e .args .n)) in
+    (omega arith, omega arith, values-none _ _, omega (arith, step))
+
+-- there are at most 512 columns at a degree
+few-columns : (l : tie.At-loop Inv-loop μ-loop) → getD (start (taken l) .args .t3) (l .loop .d) 0 ≤ 512
+few-columns l = start (taken l) .pre .2 (l .loop .d)
+
+cast-count : tie.Need-cast-count Inv-loop μ-loop
+cast-count c = omega (arith, few-columns (c .before))
 
 -- the pivots are 512 numbers
-long-pivots : (c : tie.After-eliminate-tallied Inv-loop μ-loop) → length (c .eliminate-tallied .last .1 .0) ≡ 512
-long-pivots c = c .eliminate-tallied .kept .1 .0 ∙ length-replicate {A = ℕ} 512 0
+long-pivots : (e : tie.After-eliminate-tallied Inv-loop μ-loop) → length (e .eliminate-tallied .last .1 .0) ≡ 512
+long-pivots e = e .eliminate-tallied .kept .1 .0 ∙ length-replicate {A = ℕ} 512 0
 
 -- so are those of the tally
-long-tally : (c : tie.After-eliminate-tallied Inv-loop μ-loop) → length (c .eliminate-tallied .last .1 .1 .0) ≡ 512
-long-tally c = c .eliminate-tallied .kept .1 .1 .0 ∙ length-replicate {A = ℕ} 512 0
-
-column-count-requires : tie.Need-column-count-requires Inv-loop μ-loop
-column-count-requires c κs =
-    let s = c .before .before .before .before .before .before .before .before .before .before .before .before .before in
-    (s .pre .0 .ordered, s .pre .0 .small)
+long-tally : (e : tie.After-eliminate-tallied Inv-loop μ-loop) → length (e .eliminate-tallied .last .1 .1 .0) ≡ 512
+long-tally e = e .eliminate-tallied .kept .1 .1 .0 ∙ length-replicate {A = ℕ} 512 0
 
 slice-aggregate-count-below : tie.Need-slice-aggregate-count-below Inv-loop μ-loop
-slice-aggregate-count-below c = sym (long-pivots (c .before .before .before .before .before .before .before .before))
+slice-aggregate-count-below c = sym (long-pivots (taken (c .before .before)))
 
 count-below-requires : tie.Need-count-below-requires Inv-loop μ-loop
-count-below-requires c κs =
-    let e = c .before .before .before .before .before .before .before .before in
-    (long-pivots e, e .eliminate-tallied .ensures .1 .0 .0)
+count-below-requires c κs = let e = taken (c .before .before) in (long-pivots e, e .eliminate-tallied .ensures .1 .0 .0)
 
 cast-ranks : tie.Need-cast-ranks Inv-loop μ-loop
-cast-ranks c =
-    let e = c .before .before .before .before .before .before .before .before .before in
-    omega (arith, c .count-below .ensures .1, e .eliminate-tallied .ensures .1 .0 .0)
+cast-ranks c = omega (arith, c .count-below .ensures .1, taken (c .before .before .before) .eliminate-tallied .ensures .1 .0 .0)
 
 slice-aggregate-sum-below : tie.Need-slice-aggregate-sum-below Inv-loop μ-loop
-slice-aggregate-sum-below c = sym (long-tally (c .before .before .before .before .before .before .before .before .before .before))
-
--- there are at most 512 columns
-few-columns : (c : tie.After-column-count Inv-loop μ-loop) → c .column-count .result ≤ 512
-few-columns c =
-    let s = c .before .before .before .before .before .before .before .before .before .before .before .before .before .before in
-    rw (c .column-count .ensures) (length-columns (s .pre .0 .ordered) _ _)
+slice-aggregate-sum-below c = sym (long-tally (taken (c .before .before .before .before)))
 
 sum-below-requires : tie.Need-sum-below-requires Inv-loop μ-loop
 sum-below-requires c κs =
-    let k = c .before .before .before in
-    let e = k .before .before .before .before .before .before .before in
-    (long-tally e, few-columns k, e .eliminate-tallied .ensures .1 .0 .1)
+    let l = c .before .before .before .before in
+    (long-tally (taken l), few-columns l, taken l .eliminate-tallied .ensures .1 .0 .1)
 
 -- what is summed at a degree is small
 few-added : (c : tie.After-sum-below Inv-loop μ-loop) → c .sum-below .result ≤ 134217728
-few-added c = omega (arith, c .sum-below .ensures .1, few-columns (c .before .before .before .before))
+few-added c = omega (arith, c .sum-below .ensures .1, few-columns (c .before .before .before .before .before))
 
 add-additions : tie.Need-add-additions Inv-loop μ-loop
 add-additions c =
-    let l = c .before .before .before .before .before .before in
-    let s = l .before .before .before .before .before .before .before .before .before .before .before .before in
-    omega (arith, few-added c, l .loop .inv .1, s .pre .0 .small)
+    let l = c .before .before .before .before .before in
+    omega (arith, few-added c, l .loop .inv .1, start (taken l) .pre .3)
 
 loop-again : tie.Need-loop-again Inv-loop μ-loop
 loop-again c =
-    let q = c .before .before in
-    let k = q .before .before in
-    let l = k .before .before in
-    let e = l .before .before .before .before .before in
-    let s = e .before .before .before .before .before .before .before in
-    let i = l .loop .inv in
-    let o = s .args .order .now in
-    let n = s .args .n in
-    let d = l .loop .d in
-    let up = k .before .loop-test .taken in
-    let ws = e .eliminate-tallied .last .0 in
-    let pivots = e .eliminate-tallied .last .1 .0 in
-    let tally = e .eliminate-tallied .last .1 .1 .0 in
-    let kept = e .eliminate-tallied .result in
-    let h = e .eliminate-tallied .ensures in
-    let long : length ws ≡ 8192 = e .eliminate-tallied .kept .0 ∙ s .pre .0 .long in
-    let rank : q .count-below .result ≡ rankOf o n d (points (s .args .mask .now)) =
-    q .count-below .ensures .0 ∙ ap (λ m. countTo m (take kept pivots)) (k .column-count .ensures)
-    ∙ tallied-rank (s .pre .0 .ordered) n d (s .pre .0 .small) up (unpacked (s .args .ws .now)) (s .pre .0 .rows) _ (s .pre .1 .inside) (unpacked ws) kept tally (h .0)
-    pivots (long-pivots e) (length-rows 1024 ws) (λ j g. length-row ws j long (rw (length-rows 1024 ws) at g)) (h .1 .0 .0) (h .1 .1) in
-    let sum : c .sum-below .result ≡ addedAt o n (s .args .mask .now) d =
-    c .sum-below .ensures .0 ∙ ap (λ m. sumTo m tally) (k .column-count .ensures)
-    ∙ tallied-additions (s .pre .0 .ordered) n d (s .pre .0 .small) up (unpacked (s .args .ws .now)) (s .pre .0 .rows) _ (s .pre .1 .inside) (unpacked ws) kept tally (h .0) in (
+    let k = c .before .before in
+    let l = k .before .before .before in
+    let e = taken l in
+    let a = start e .args in
+    let up = k .before .before .loop-test .taken in (
       omega arith,
-      omega (arith, few-added c, i .1),
-      length-set (l .loop .ranks) d _ ∙ i .2,
-      below-more _ d (λ j g. getD-set-other (l .loop .ranks) d j _ 0 (omega arith) ∙ i .3 j g)
-          (getD-set-same (l .loop .ranks) d _ 0 (omega (arith, i .2, up, s .pre .0 .small)) ∙ rank),
-      added _ n d (l .loop .additions) _ up sum (i .4),
+      omega (arith, few-added c, l .loop .inv .1),
+      values-next _ _ (l .loop .d) (l .loop .ranks) _ (omega (arith, up, start e .pre .3))
+          (k .count-below .ensures .0 ∙ sym (up-to-here (a .n) (counted (a .t3) (e .eliminate-tallied .result) (e .eliminate-tallied .last .1 .0)) (l .loop .d) up)) (l .loop .inv .2),
+      added _ (a .n) (l .loop .d) (l .loop .additions) _ up (c .sum-below .ensures .0) (l .loop .inv .3),
     )
 
 returns : tie.Need-returns Inv-loop μ-loop
 returns c =
     let l = c .before in
-    let e = l .before .before .before .before .before in
-    let s = e .before .before .before .before .before .before .before in
-    let i = l .loop .inv in (
-      λ d low. i .3 d (omega arith),
+    let e = taken l in
+    let s = start e in
+    let a = s .args in
+    let ws = e .eliminate-tallied .last .0 in
+    let pivots = e .eliminate-tallied .last .1 .0 in
+    let tally = e .eliminate-tallied .last .1 .1 .0 in
+    let kept = e .eliminate-tallied .result in
+    let h = e .eliminate-tallied .ensures in
+    let long : length ws ≡ 8192 = e .eliminate-tallied .kept .0 ∙ s .pre .0 in (
+      values-all _ _ (l .loop .d) (l .loop .ranks) (λ k low high. up-to-past (a .n) (counted (a .t3) kept pivots) k (omega (arith, c .loop-test .left))) (l .loop .inv .2)
+          ∙ up-to-same (a .n) _ _ (λ d _. tallied-kept (unpacked (a .ws .now)) _ (unpacked ws) kept tally (h .0) pivots (long-pivots e) (length-rows 1024 ws)
+          (λ j g. length-row ws j long (rw (length-rows 1024 ws) at g)) (h .1 .0 .0) (h .1 .1) (getD (a .t3) d 0)),
       (
-        added-all _ _ (l .loop .d) _ (c .loop-test .left) (i .4),
-        (omega (arith, i .1, s .pre .0 .small), e .eliminate-tallied .ensures .0 .stays),
+        added-all _ (a .n) (l .loop .d) _ (c .loop-test .left) (l .loop .inv .3) ∙ summed-same (a .n) _ _ (λ d _. sym (h .0 .additions (getD (a .t3) d 0))),
+        (omega (arith, l .loop .inv .1, s .pre .3), h .0 .stays),
       ),
     )
 
@@ -168,7 +149,9 @@ mask-ranks-spec =
     (λ c. search needs)
     eliminate-tallied-requires
     loop-holds
-    column-count-requires
+    (λ c. omega arith)
+    (λ c. omega arith)
+    cast-count
     slice-aggregate-count-below
     count-below-requires
     cast-ranks
@@ -180,5 +163,5 @@ mask-ranks-spec =
     (λ c. omega arith)
     (λ c. omega arith)
     loop-again
-    (λ c. c .before .before .before .before .before .before .eliminate-tallied .kept .0)
+    (λ c. taken (c .before) .eliminate-tallied .kept .0)
     returns)
