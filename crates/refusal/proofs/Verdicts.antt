@@ -14,7 +14,7 @@
 --   refused-among     the refusal of a broken check is one of the list's
 use mathlib.Core.Path.{_≡_, refl, _∙_}
 use mathlib.Core.Logic.{_↔_}
-use mathlib.Core.Bool.{Bool, true, false, _&&_, false≢true}
+use mathlib.Core.Bool.{Bool, true, false, _&&_, and-eq-true-iff, false≢true}
 use mathlib.Core.List.{List, [], _∷_, _++_}
 use Prim.Native.Nat.{ℕ}
 use native.Mathlib.Omega.{arith}
@@ -97,16 +97,11 @@ accepted-passes [] o a e = (refl, e)
 accepted-passes (true otherwise r ∷ cs) o a e = accepted-passes cs o a e
 accepted-passes (false otherwise r ∷ cs) o a e = absurd (not-both e)
 
--- both parts of a test that holds
-both : (a b : Bool) → (a && b) ≡ true → (a ≡ true) × (b ≡ true)
-both true b e = (refl, e)
-both false b e = absurd (false≢true e)
-
 -- the refusal of a broken check is one of the list's
 pub refused-among : (p : Refusal → Bool) (cs : List Check) {x : Refusal} → every p cs ≡ true → verdict cs ≡ Refused x → p x ≡ true
 unfolding alsoOf
 refused-among p [] h e = let z : _≡_ {A = ℕ} 0 1 = cc in absurd (omega arith)
-refused-among p (true otherwise r ∷ cs) h e = refused-among p cs (both (p r) (every p cs) h .1) e
+refused-among p (true otherwise r ∷ cs) h e = refused-among p cs (and-eq-true-iff (p r) (every p cs) .0 h .1) e
 refused-among p (false otherwise r ∷ cs) {x} h e =
     let s = refused-stays r cs in
-    let same : r ≡ x = cc in rw (← same) (both (p r) (every p cs) h .0)
+    let same : r ≡ x = cc in rw (← same) (and-eq-true-iff (p r) (every p cs) .0 h .0)
