@@ -1,4 +1,4 @@
--- Hand over: the part of a witness buffer that holds the witness of a side.
+-- Hand over: docs/SPECIFICATION.md, 'Hand over'. The part of a witness buffer that holds the witness of a side.
 --   right n side k l                 n, the side and the lengths k and l of both buffers are right
 --   lengthIf b n                     N where a test holds, else 0
 --   handed n side w                  the part of the buffers w that is handed back: the first N bytes of the side's, or none

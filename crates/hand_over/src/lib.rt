@@ -1,4 +1,4 @@
-// Hand over: the part of a witness buffer that holds the witness of a side.
+// Hand over: docs/SPECIFICATION.md, 'Hand over'. The part of a witness buffer that holds the witness of a side.
 ghost use mathlib.Core.Path.{_≡_};
 ghost use Prim.Native.Nat.{_≤_};
 ghost use Rattle.filter.specs.Sides.{pair};

@@ -1,7 +1,7 @@
 -- The degree that is reported.
+--   FirstDiffers ..   k is the first degree at which a side differs, and no annihilator has a smaller degree
 --   unequal-differs   a side differs where the ranks are unequal, and nowhere else
 --   equal-just        equal ranks mean that there is no annihilator up to the degree
---   FirstDiffers ..   k is the first degree at which a side differs, and no annihilator has a smaller degree
 --   reports           a degree is reported, and is that
 use mathlib.Core.Path.{_≡_, refl, sym, _∙_}
 use mathlib.Core.Bool.{Bool, true, false, _||_, or-true, false≢true}

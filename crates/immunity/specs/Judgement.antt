@@ -2,8 +2,8 @@
 --   EqualRanks o n s f side d   the set and the side's part have the same rank at degree d
 --   differs o n s f d side      at degree d the rank of the side's part is not that of the set
 --   eitherDiffers ..            one of the two sides differs
---   ranksAt o n s f d           the ranks of the set, part 1 and part 0 at a degree; all 0 past n
 --   reported o n s f            the first degree at which a side differs, or none
+--   ranksAt o n s f d           the ranks of the set, part 1 and part 0 at a degree; all 0 past n
 --   sideAt .. k                 the side for the reported degree: 1 if side 1 differs there, else 0
 --   additionsAt                 the additions of the three eliminations at a degree
 --   summed t xs                 the sum of t over a list
@@ -13,16 +13,16 @@
 --   partRanks j d               those of the parts, one for each side
 --   GivenEqual j side d         the two ranks that the judgement j gives for a side at degree d are equal
 use mathlib.Core.Path.{_≡_}
-use Prim.Native.Nat.{ℕ, _+_}
-use Rattle.filter.specs.Sides.{Sides, ofSide, bothSides}
-use Rattle.filter.specs.Part.{part, bothParts}
 use mathlib.Core.Bool.{Bool, false, not, _||_}
 use mathlib.Core.List.{List, [], _∷_, map}
 use mathlib.Core.Option.{Option, none, some}
+use Prim.Native.Nat.{ℕ, _+_}
 use lib.Dec.{eqb}
 use lib.ListN.{getD}
 use Rattle.cube.specs.NumberLists.{below}
 use Rattle.cube.specs.Mask.{points, byte, mask}
+use Rattle.filter.specs.Sides.{Sides, ofSide, bothSides}
+use Rattle.filter.specs.Part.{part, bothParts}
 use Rattle.matrix.specs.Matrix.{rankOf}
 use Rattle.immunity.specs.declared.Ranks.{Ranks}
 use Rattle.immunity.specs.Ranks.{noRanks, ranksIf, parts, ranksUpTo, additionsOf}
