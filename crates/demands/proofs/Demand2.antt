@@ -3,12 +3,15 @@
 use mathlib.Core.Path.{_≡_, sym, ap, _∙_, subst}
 use mathlib.Core.List.{List}
 use Prim.Native.Nat.{ℕ, _≤_, _<_}
+use native.Mathlib.Omega.{arith}
 use mathlib.Core.Bool.{true}
+use lib.ListN.{length}
 use Rattle.cube.specs.Cube.{size}
 use Rattle.cube.specs.Mask.{wellFormed, member, points}
 use Rattle.order.specs.BuiltIn.{graded}
 use Rattle.order.proofs.BuiltIn.{graded-is-graded}
 use Rattle.gf2.specs.Rank.{Rank}
+use Rattle.gf2.proofs.Kept.{additions-bound}
 use Rattle.refusal.specs.Outcome.{left}
 use Rattle.refusal.specs.Verdict.{verdict}
 use Rattle.refusal.specs.declared.verdict.Verdict.the-variants.{Passed}
@@ -18,13 +21,14 @@ use Rattle.polynomial.specs.Convert.{converted, convertChecks, convertOutcome, 
 use Rattle.polynomial.proofs.Value.{value-same, value-twice}
 use Rattle.polynomial.proofs.Converted.{convert-fits}
 use Rattle.polynomial.proofs.NormalForm.{length-converted, converted-at, converted-formed, converted-twice}
-use Rattle.matrix.specs.Matrix.{rows}
-use Rattle.matrix.proofs.RankOf.{rank-of, rank-accepted}
+use Rattle.matrix.specs.Matrix.{row, rows, eliminated, rankOf}
+use Rattle.matrix.specs.declared.rank.Ranked.{Ranked}
+use Rattle.matrix.proofs.RankOf.{rank-of, rank-accepted, additions-accepted}
 use Rattle.filter.specs.Sides.{ofSide}
 use Rattle.filter.specs.Part.{part}
 use Rattle.filter.proofs.Filters.{few-taps}
 use Rattle.immunity.specs.Judgement.{Judgement, judged, setRank, partRanks}
-use Rattle.demands.specs.Demands.{ConvertAccepts, Demand2}
+use Rattle.demands.specs.Demands.{ConvertAccepts, RankAccepts, FewAdditions, Demand2}
 use Rattle.judge.specs.Judge.{JudgeAccepts}
 use Rattle.immunity.proofs.Given.{set-given, part-given}
 use Rattle.judge.proofs.Passed.{judge-accepted}
@@ -64,19 +68,23 @@ only n p t e h u l = to-table n t e u l ∙ value-same n (member t) (value n p) 
 judged-few : (n : ℕ) (s f : List ℕ) (j : Judgement) → JudgeAccepts graded n s f j → (n ≤ 9) × (judged graded n s f ≡ j)
 judged-few n s f j e = let (h, _, is) = judge-accepted graded n s f j e in (few-taps n s f h, is)
 
--- the rank of the set that Judge gives is that of its matrix
-set-rank : (n : ℕ) (s f : List ℕ) (j : Judgement) → JudgeAccepts graded n s f j → (d : ℕ) → d ≤ n → Rank (rows graded n d (points s)) (setRank j d)
-set-rank n s f j e d l =
-    let (small, is) = judged-few n s f j e in
-    subst (Rank (rows graded n d (points s))) (sym (set-given graded n s f d l small) ∙ ap (λ x. setRank x d) is) (rank-of graded n d (points s))
+module _ (n : ℕ) (s f : List ℕ) (j : Judgement) (e : JudgeAccepts graded n s f j) (d : ℕ) (low : d ≤ n) where
+  -- the rank of the set that Judge gives is the number of rows kept
+  set-kept : rankOf graded n d (points s) ≡ setRank j d
+  set-kept = let (small, is) = judged-few n s f j e in sym (set-given graded n s f d low small) ∙ ap (λ x. setRank x d) is
 
--- and so is that of each part
-part-rank : (n : ℕ) (s f : List ℕ) (j : Judgement) → JudgeAccepts graded n s f j → (side d : ℕ) → side ≤ 1 → d ≤ n
-    → Rank (rows graded n d (part side s f)) (ofSide side (partRanks j d))
-part-rank n s f j e side d m l =
-    let (small, is) = judged-few n s f j e in
-    subst (Rank (rows graded n d (part side s f))) (sym (part-given graded n s f d l small side m) ∙ ap (λ x. ofSide side (partRanks x d)) is)
-    (rank-of graded n d (part side s f))
+  -- and so is that of each part
+  part-kept : (side : ℕ) → side ≤ 1 → rankOf graded n d (part side s f) ≡ ofSide side (partRanks j d)
+  part-kept side m = let (small, is) = judged-few n s f j e in sym (part-given graded n s f d low small side m) ∙ ap (λ x. ofSide side (partRanks x d)) is
+
+-- elimination makes few additions
+few-additions : (n d : ℕ) (ps : List ℕ) → FewAdditions (length ps) (rankOf graded n d ps) (eliminated graded n d ps .additions)
+unfolding eliminated
+few-additions n d ps = omega (arith, additions-bound (row graded n d) ps)
+
+-- so does Rank
+rank-additions : (b : List ℕ) (n d : ℕ) (r : Ranked) → RankAccepts b n d r → FewAdditions (length (points b)) (r .rank) (r .additions)
+rank-additions b n d r e = omega (arith, additions-accepted graded b n d 8192 r e .0)
 
 -- every sentence of it
 pub demand2 : Demand2
@@ -89,6 +97,10 @@ demand2 = record {
     leaves n (convertLeaves n b) (again n b e) ∙ ap (converted n) (leaves n b e) ∙ converted-twice n b (formed n b e) (convert-fits n b (passed n b e)),
   );
   rank = λ b n d r e. rank-accepted graded b n d 8192 r e graded-is-graded graded-is-graded;
-  set-rank = set-rank;
-  part-rank = part-rank;
+  set-rank = λ n s f j e d l. subst (Rank (rows graded n d (points s))) (set-kept n s f j e d l) (rank-of graded n d (points s));
+  part-rank = λ n s f j e side d m l. subst (Rank (rows graded n d (part side s f))) (part-kept n s f j e d l side m) (rank-of graded n d (part side s f));
+  additions = rank-additions;
+  set-additions = λ n s f j e d l. subst (λ r. FewAdditions (length (points s)) r (eliminated graded n d (points s) .additions)) (set-kept n s f j e d l) (few-additions n d (points s));
+  part-additions = λ n s f j e side d m l.
+      subst (λ r. FewAdditions (length (part side s f)) r (eliminated graded n d (part side s f) .additions)) (part-kept n s f j e d l side m) (few-additions n d (part side s f));
 }

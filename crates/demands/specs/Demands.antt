@@ -1,15 +1,16 @@
 -- The demands on the whole, sentence by sentence, about the definitions that the contracts equate with what the code answers and leaves.
 --   ConvertAccepts n b              Convert accepts n taps and the bytes b
 --   RankAccepts b n d r             Rank accepts the points of the mask b at n taps and degree d, lent a workspace of the right length, and answers r
+--   FewAdditions m r a              a additions are at most those that the formula allows for m points of rank r
 --   Demand1                         a file is read in full or refused by its first number, and a refusal changes none of the lent buffers
---   Demand2                         table and coefficients turn into each other, and every rank is that of the matrix of points against monomials
+--   Demand2                         table and coefficients turn into each other, every rank is that of the matrix of points against monomials, and few additions are made
 --   Judgement3 n s f j              demand 3 of one n, set and table
 --   Demand3                         demand 3
 use mathlib.Core.Path.{_≡_}
 use mathlib.Core.Logic.{_↔_, _⊎_, _≢_}
 use mathlib.Core.List.{List}
 use mathlib.Core.Option.{some}
-use Prim.Native.Nat.{ℕ, _≤_, _<_}
+use Prim.Native.Nat.{ℕ, _+_, _*_, _/_, _≤_, _<_}
 use lib.ListN.{length}
 use Rattle.cube.specs.NumberLists.{lists}
 use Rattle.cube.specs.Cube.{size}
@@ -22,7 +23,7 @@ use Rattle.polynomial.specs.Convert.{convertOutcome, convertLeaves, ConvertCont
 use Rattle.gf2.specs.Rank.{Rank}
 use Rattle.gf2.specs.Packed.{zeros}
 use Rattle.matrix.specs.declared.rank.Ranked.{Ranked}
-use Rattle.matrix.specs.Matrix.{rows}
+use Rattle.matrix.specs.Matrix.{rows, eliminated}
 use Rattle.matrix.specs.declared.rank.RankAnswer.{RankAnswer}
 use Rattle.matrix.specs.Rank.{rankOutcome, RankContract}
 use Rattle.filter_file.specs.declared.read.ReadAnswer.{ReadAnswer}
@@ -47,6 +48,10 @@ ConvertAccepts n b = convertOutcome n b ≡ accepted tt
 -- Rank accepts the points of the mask b at n taps and degree d, lent a workspace of the right length, and answers r
 abbrev pub RankAccepts : List ℕ → ℕ → ℕ → Ranked → Type 0
 RankAccepts b n d r = rankOutcome graded b n d 8192 ≡ accepted r
+
+-- at most m × r - r × (r + 1) / 2, with what is taken away on the other side
+abbrev pub FewAdditions : ℕ → ℕ → ℕ → Type 0
+FewAdditions m r a = a + r * (r + 1) / 2 ≤ m * r
 
 -- demand 1
 pub record Demand1 : Type 0 where
@@ -98,6 +103,14 @@ pub record Demand2 : Type 0 where
   -- and of each part
   pub part-rank : (n : ℕ) (s f : List ℕ) (j : Judgement) → JudgeAccepts graded n s f j → (side d : ℕ) → side ≤ 1 → d ≤ n
       → Rank (rows graded n d (part side s f)) (ofSide side (partRanks j d))
+  -- for m points of rank r the additions are at most m × r - r × (r + 1) / 2: of Rank,
+  pub additions : (b : List ℕ) (n d : ℕ) (r : Ranked) → RankAccepts b n d r → FewAdditions (length (points b)) (r .rank) (r .additions)
+  -- and of each elimination whose additions Judge sums: of the set
+  pub set-additions : (n : ℕ) (s f : List ℕ) (j : Judgement) → JudgeAccepts graded n s f j → (d : ℕ) → d ≤ n
+      → FewAdditions (length (points s)) (setRank j d) (eliminated graded n d (points s) .additions)
+  -- and of each part
+  pub part-additions : (n : ℕ) (s f : List ℕ) (j : Judgement) → JudgeAccepts graded n s f j → (side d : ℕ) → side ≤ 1 → d ≤ n
+      → FewAdditions (length (part side s f)) (ofSide side (partRanks j d)) (eliminated graded n d (part side s f) .additions)
 
 -- demand 3, of one n, set and table, and what Judge answers and leaves
 pub record Judgement3 (n : ℕ) (s f : List ℕ) (j : Judgement) : Type 0 where
