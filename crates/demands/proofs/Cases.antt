@@ -16,18 +16,25 @@ use Rattle.polynomial.specs.Convert.{values, converted, convertOutcome, convert
 use Rattle.polynomial.specs.Degree.{largest, degreeOutcome}
 use Rattle.matrix.specs.Matrix.{eliminated}
 use Rattle.matrix.specs.Rank.{rankOutcome}
+use Rattle.varint.specs.Varint.{groups, varint, encodeVarint}
+use Rattle.filter_file.specs.PointList.{pointsFrom, pointList, differences, encodeList}
+use Rattle.filter_file.specs.File.{twoLists, contents, encode}
+use Rattle.filter_file.specs.Read.{readOutcome}
 use Rattle.filter.specs.Outside.{isOutside}
 use Rattle.immunity.specs.Judgement.{differs, judged}
 use Rattle.immunity.specs.Certificate.{bitOf, certificate}
 use Rattle.judge.specs.Judge.{judgeOutcome}
-use Rattle.certify.specs.Certify.{certifyOutcome}
-use Rattle.demands.specs.Cases.{sameList, isDegree, onAccepted, isRefused, holdsFact, holdFacts, holds, holdAll, cases}
+use Rattle.text.specs.Text.{ascii, digits, decimal, joined}
+use Rattle.sheet_text.specs.Sheet.{judgementSheet, sheet}
+use Rattle.demands.specs.Cases.{sameList, isDegree, onAccepted, isRefused, textOf, holdsFact, holdFacts, holds, holdAll, cases}
 
 -- each case of the list
 pub cases-hold : holdAll cases ≡ true
-unfolding holdAll cases holds holdFacts holdsFact sameList isDegree onAccepted isRefused
+unfolding holdAll cases holds holdFacts holdsFact sameList isDegree onAccepted isRefused textOf
     convertLeaves convertOutcome converted values degreeOutcome largest value sumBelow
-    rankOutcome judgeOutcome certifyOutcome judged differs isOutside bitOf certificate number
+    encode encodeList differences encodeVarint readOutcome contents twoLists pointList pointsFrom varint groups
+    sheet judgementSheet joined decimal digits ascii
+    rankOutcome judgeOutcome judged differs isOutside bitOf certificate number
     eliminated takePoints takePoint keepUnless reduce addIf count isZero pivot solve flip dot unit add total chosen xor
     graded bitsThenZeros within ones onesIn upFrom select consIf lists isEmpty
 cases-hold = refl

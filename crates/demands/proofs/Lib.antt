@@ -3,4 +3,3 @@ pub mod Cases
 pub mod Demand1
 pub mod Demand2
 pub mod Demand3
-pub mod Sample

@@ -5,49 +5,52 @@
 --   isDegree k o    whether a degree is reported, and is k
 --   onAccepted t o  whether an outcome accepts, with values that pass the test t
 --   isRefused k o   whether an outcome is a refusal by the number k
+--   textOf ls       the text of lines
 --   holdsFact ..    whether a fact is so
 --   holdFacts ..    whether each fact of a list is so
 --   holds c         whether each fact of a case is so
 --   holdAll cs      whether each case of a list is so
 --   cases           the list
 use mathlib.Core.Bool.{Bool, true, false, _&&_}
-use mathlib.Core.List.{List, [], _∷_}
+use mathlib.Core.List.{List, [], _∷_, _++_, map}
 use mathlib.Core.Option.{Option, none, some}
-use Prim.Native.Nat.{ℕ}
+use Prim.Native.Nat.{ℕ, _+_}
+use Prim.Native.String.{String}
 use lib.Dec.{eqb}
 use Rattle.cube.specs.NumberLists.{below, select, lists}
 use Rattle.cube.specs.Mask.{member, mask}
 use Rattle.order.specs.BuiltIn.{graded}
 use Rattle.refusal.specs.Outcome.{Outcome, refused, accepted}
-use Rattle.polynomial.specs.Convert.{convertLeaves}
+use Rattle.polynomial.specs.Convert.{convertOutcome, convertLeaves}
 use Rattle.polynomial.specs.Degree.{exponents, degreeOutcome}
 use Rattle.matrix.specs.Rank.{rankOutcome}
+use Rattle.filter_file.specs.File.{encode}
 use Rattle.filter.specs.Sides.{ofSide}
 use Rattle.immunity.specs.Judgement.{Judgement, setRank, partRanks}
-use Rattle.immunity.specs.Certificate.{bitOf}
 use Rattle.judge.specs.Judge.{judgeOutcome}
-use Rattle.certify.specs.Certify.{certifyOutcome}
+use Rattle.text.specs.Text.{Text, ascii, newline}
+use Rattle.sheet_text.specs.Sheet.{sheet}
 
 -- an answer that is expected
 pub data Fact : Type 0 where
-  -- Convert turns the table into these coefficients, named by their exponents
+  -- Convert accepts the table, and turns it into these coefficients, named by their exponents
   coefficients : List ℕ → Fact
-  -- Degree refuses the table's coefficients by this number
+  -- Convert accepts the table, and Degree refuses its coefficients by this number
   noDegree : ℕ → Fact
   -- Rank gives the set at a degree this rank
   rank : ℕ → ℕ → Fact
   -- at a degree, Judge gives the set, part 1 and part 0 these ranks
   ranks : ℕ → ℕ → ℕ → ℕ → Fact
+  -- at the degrees from 0 to n, Judge gives the set these ranks
+  setRanks : List ℕ → Fact
   -- Judge reports this degree
   degree : ℕ → Fact
   -- and this side
   side : ℕ → Fact
   -- whose witness has these exponents, in graded order
   witness : List ℕ → Fact
-  -- Certify names for a side, a degree and a point these points
-  sum : ℕ → ℕ → ℕ → List ℕ → Fact
-  -- Judge counts these additions
-  additions : ℕ → Fact
+  -- the file of n, the set and the table has these bytes, and its sheet these lines
+  printed : List ℕ → List String → Fact
 
 -- inputs and expected answers
 pub record Case : Type 0 where
@@ -78,29 +81,34 @@ unfoldable pub isRefused : {A : Type 0} → ℕ → Outcome A → Bool
 isRefused k (refused j) = eqb j k
 isRefused k (accepted a) = false
 
--- whether a fact is so of n taps, the set s and the table f, where Judge's outcome is o
-unfoldable pub holdsFact : ℕ → List ℕ → List ℕ → Outcome Judgement → Fact → Bool
-holdsFact n s f o (coefficients us) = sameList (exponents (convertLeaves n f)) us
-holdsFact n s f o (noDegree k) = isRefused k (degreeOutcome n (convertLeaves n f))
-holdsFact n s f o (rank d r) = onAccepted (λ x. eqb (x .rank) r) (rankOutcome graded s n d 8192)
-holdsFact n s f o (ranks d a b c) = onAccepted (λ j. eqb (setRank j d) a && eqb (partRanks j d .one) b && eqb (partRanks j d .zero) c) o
-holdsFact n s f o (degree k) = onAccepted (λ j. isDegree k (j .degree)) o
-holdsFact n s f o (side i) = onAccepted (λ j. eqb (j .side) i) o
-holdsFact n s f o (witness us) = onAccepted (λ j. sameList (select (member (ofSide (j .side) (j .witnesses))) graded) us) o
-holdsFact n s f o (sum i d a qs) = onAccepted (λ c. sameList (select (bitOf c a) (below 512)) qs) (certifyOutcome graded s f n i d 8192 4096)
-holdsFact n s f o (additions m) = onAccepted (λ j. eqb (j .additions) m) o
+-- the bytes of lines, each ended
+unfoldable pub textOf : List String → Text
+textOf [] = []
+textOf (l ∷ ls) = ascii l ++ newline ++ textOf ls
+
+-- whether a fact is so of a case with the set s and the table f, where Judge's outcome is o
+unfoldable pub holdsFact : Case → List ℕ → List ℕ → Outcome Judgement → Fact → Bool
+holdsFact c s f o (coefficients us) = onAccepted (λ x. sameList (exponents (convertLeaves (c .taps) f)) us) (convertOutcome (c .taps) f)
+holdsFact c s f o (noDegree k) = onAccepted (λ x. isRefused k (degreeOutcome (c .taps) (convertLeaves (c .taps) f))) (convertOutcome (c .taps) f)
+holdsFact c s f o (rank d r) = onAccepted (λ x. eqb (x .rank) r) (rankOutcome graded s (c .taps) d 8192)
+holdsFact c s f o (ranks d x y z) = onAccepted (λ j. eqb (setRank j d) x && eqb (partRanks j d .one) y && eqb (partRanks j d .zero) z) o
+holdsFact c s f o (setRanks rs) = onAccepted (λ j. sameList (map (setRank j) (below (c .taps + 1))) rs) o
+holdsFact c s f o (degree k) = onAccepted (λ j. isDegree k (j .degree)) o
+holdsFact c s f o (side i) = onAccepted (λ j. eqb (j .side) i) o
+holdsFact c s f o (witness us) = onAccepted (λ j. sameList (select (member (ofSide (j .side) (j .witnesses))) graded) us) o
+holdsFact c s f o (printed file ls) = sameList (encode (record { n = c .taps; set = c .set; table = c .table })) file && sameList (sheet file) (textOf ls)
 
 -- each fact of a list is so
-unfoldable pub holdFacts : ℕ → List ℕ → List ℕ → Outcome Judgement → List Fact → Bool
-holdFacts n s f o [] = true
-holdFacts n s f o (x ∷ xs) = holdsFact n s f o x && holdFacts n s f o xs
+unfoldable pub holdFacts : Case → List ℕ → List ℕ → Outcome Judgement → List Fact → Bool
+holdFacts c s f o [] = true
+holdFacts c s f o (x ∷ xs) = holdsFact c s f o x && holdFacts c s f o xs
 
 -- each fact of a case is so
 unfoldable pub holds : Case → Bool
 holds c =
     let s : List ℕ = mask (lists (c .set)) in
     let f : List ℕ = mask (lists (c .table)) in
-    holdFacts (c .taps) s f (judgeOutcome graded s f (c .taps) 8192 512 512) (c .facts)
+    holdFacts c s f (judgeOutcome graded s f (c .taps) 8192 512 512) (c .facts)
 
 -- each case of a list is so
 unfoldable pub holdAll : List Case → Bool
@@ -112,24 +120,28 @@ unfoldable pub cases : List Case
 cases =
     record { taps = 3; set = []; table = 7 ∷ []; facts = coefficients (7 ∷ []) ∷ [] }
     ∷ record { taps = 2; set = []; table = 0 ∷ []; facts = coefficients (0 ∷ 1 ∷ 2 ∷ 3 ∷ []) ∷ [] }
-    ∷ record { taps = 1; set = []; table = []; facts = coefficients [] ∷ noDegree 9 ∷ [] }
+    ∷ record { taps = 1; set = []; table = []; facts = noDegree 9 ∷ [] }
     ∷ record { taps = 2; set = []; table = []; facts = rank 1 0 ∷ [] }
     ∷ record {
       taps = 2;
       set = 0 ∷ 1 ∷ 2 ∷ 3 ∷ [];
       table = 3 ∷ [];
       facts =
-          ranks 0 1 1 1
-          ∷ ranks 1 3 1 3
-          ∷ ranks 2 4 1 3
-          ∷ degree 1
-          ∷ side 1
-          ∷ witness (0 ∷ 1 ∷ [])
-          ∷ sum 1 0 0 (3 ∷ [])
-          ∷ sum 1 0 1 (3 ∷ [])
-          ∷ sum 1 0 2 (3 ∷ [])
-          ∷ sum 0 0 3 (0 ∷ [])
-          ∷ additions 19
+          printed
+          (2 ∷ 4 ∷ 0 ∷ 1 ∷ 1 ∷ 1 ∷ 1 ∷ 3 ∷ [])
+          (
+          "n 2 points 4 mark 1"
+          ∷ "0 1 1 1"
+          ∷ "1 3 1 3"
+          ∷ "2 4 1 3"
+          ∷ "degree 1 side 1 witness 0 1"
+          ∷ "side 1 point 0 sum 3"
+          ∷ "side 1 point 1 sum 3"
+          ∷ "side 1 point 2 sum 3"
+          ∷ "side 0 point 3 sum 0"
+          ∷ "additions 19"
+          ∷ []
+          )
           ∷ [];
     }
     ∷ record {
@@ -146,5 +158,5 @@ cases =
     }
     ∷ record { taps = 1; set = 0 ∷ []; table = []; facts = degree 0 ∷ side 1 ∷ witness (0 ∷ []) ∷ [] }
     ∷ record { taps = 1; set = 0 ∷ []; table = 0 ∷ []; facts = degree 0 ∷ side 0 ∷ witness (0 ∷ []) ∷ [] }
-    ∷ record { taps = 2; set = 1 ∷ 2 ∷ []; table = 1 ∷ []; facts = rank 0 1 ∷ rank 1 2 ∷ rank 2 2 ∷ degree 1 ∷ witness (0 ∷ 1 ∷ []) ∷ [] }
+    ∷ record { taps = 2; set = 1 ∷ 2 ∷ []; table = 1 ∷ []; facts = setRanks (1 ∷ 2 ∷ 2 ∷ []) ∷ degree 1 ∷ witness (0 ∷ 1 ∷ []) ∷ [] }
     ∷ []
