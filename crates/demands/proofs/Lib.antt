@@ -1,5 +1,13 @@
--- The demands hold, and so do the starred cases.
+-- The demands and the sentences beside them hold, and so do the starred cases.
 pub mod Cases
 pub mod Demand1
 pub mod Demand2
 pub mod Demand3
+pub mod Refusals
+pub mod ColumnOrder
+pub mod Eliminations
+pub mod RankWords
+pub mod JudgeWords
+pub mod CertifyWords
+pub mod HandedOver
+pub mod JudgementWords

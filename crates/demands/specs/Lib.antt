@@ -1,3 +1,4 @@
--- The demands on the whole, and the starred cases.
+-- The demands on the whole, the sentences on ranks and judgements beside them, and the starred cases.
 pub mod Cases
 pub mod Demands
+pub mod JudgementWords

@@ -1,6 +1,7 @@
 -- Laws of judgements, witnesses and certificates.
 pub mod CertificateBits
 pub mod Certificates
+pub mod CertificateNumbers
 pub mod Equal
 pub mod First
 pub mod Given

@@ -1,0 +1,234 @@
+-- The sentences of docs/SPECIFICATION.md on ranks and judgements, 'Elimination' to 'Hand over', that the demands do not
+-- state, about the definitions that the contracts equate with what the code answers and leaves.
+--   Precedes u v                   the exponent u stands before v in graded order: by weight, and by number within a weight
+--   FirstOne v c                   c is the first nonzero column of the row v
+--   Meets rs v w m                 the row v meets the rows rs in order: m of them are added to it, and w remains
+--   Step e e′ a v                  elimination goes on from e to e′ by the point a, whose row is v
+--   smaller a ps                   the points of ps that are smaller than a
+--   KeptPoint n d ps a             a is one of the points ps, and its row at degree d is no sum of rows of smaller ones
+--   SameRank n d ps qs             the points ps and qs have the same rank at degree d
+--   Rule                           a condition on the inputs, and the number that refuses unless it holds: `number unless condition`
+--   FirstBroken rs k               k is the number of the first of the rules rs that does not hold
+--   FewTaps n                      n is from 1 to 9
+--   Formed n b                     byte a of b is 0 or 1 for a below N, and 0 from N on
+--   HasPoint s                     the set s has a point
+--   rankRules b n d m              the rules of Rank, lent the mask b and a workspace of m numbers, in the order of checking
+--   judgeRules s f n m p q         those of Judge, lent the set s, the table f, a workspace of m numbers and witness buffers of p and q bytes
+--   certifyRules s f n ..          those of Certify
+--   RankWords                      the sentences on elimination and on Rank
+--   JudgeWords n s f j k           those on what Judge answers and leaves, where the reported degree is k
+--   CertifyWords n s f side d c    those on what Certify writes for a side at degree d
+--   HandOverWords n side w handed  those on what Hand over hands back of the buffers w for a side
+--   JudgementWords                 all of them
+use mathlib.Core.Path.{_≡_}
+use mathlib.Core.Bool.{true, false}
+use mathlib.Core.Logic.{_↔_, _⊎_}
+use mathlib.Core.List.{List, [], _∷_, _++_, List·Memᴰ}
+use mathlib.Core.Option.{some}
+use Prim.Native.Nat.{ℕ, _+_, _^_, _/_, _%_, _≤_, _<_}
+use lib.Dec.{ltb}
+use lib.ListN.{length, getD, take}
+use Rattle.cube.specs.NumberLists.{below, select}
+use Rattle.cube.specs.Cube.{size, weight}
+use Rattle.cube.specs.Mask.{member, points}
+use Rattle.order.specs.Order.{columns}
+use Rattle.order.specs.BuiltIn.{graded}
+use Rattle.refusal.specs.Outcome.{refused}
+use Rattle.polynomial.specs.Polynomial.{Polynomial}
+use Rattle.gf2.specs.Vector.{Row, entry, add, Zero, SumOf}
+use Rattle.gf2.specs.Rank.{Rank}
+use Rattle.gf2.specs.Elimination.{Elimination}
+use Rattle.gf2.specs.Points.{Rising}
+use Rattle.gf2.specs.Packed.{zeros}
+use Rattle.matrix.specs.Matrix.{row, rows, eliminated}
+use Rattle.matrix.specs.declared.rank.Ranked.{Ranked}
+use Rattle.matrix.specs.Rank.{rankOutcome}
+use Rattle.filter.specs.Sides.{Sides, ofSide}
+use Rattle.filter.specs.Part.{part}
+use Rattle.immunity.specs.Witness.{IsWitness}
+use Rattle.immunity.specs.Judgement.{summed, Judgement, setRank, partRanks, GivenEqual}
+use Rattle.immunity.specs.Certificate.{IsCertificate}
+use Rattle.judge.specs.Judge.{judgeOutcome, JudgeAccepts}
+use Rattle.certify.specs.Certify.{certifyOutcome, CertifyAccepts}
+use Rattle.hand_over.specs.HandOver.{HandOverContract}
+use Rattle.demands.specs.Demands.{RankAccepts}
+
+-- by weight, and by number within a weight
+abbrev pub Precedes : ℕ → ℕ → Type 0
+Precedes u v = (weight u < weight v) ⊎ ((weight u ≡ weight v) × (u < v))
+
+-- the row has a one at column c, and none before it
+abbrev pub FirstOne : Row → ℕ → Type 0
+FirstOne v c = (entry v c ≡ true) × ((b : ℕ) → b < c → entry v b ≡ false)
+
+-- where the row has a one in the first nonzero column of one of the rows, that one is added to it, one addition each
+abbrev pub Meets : List Row → Row → Row → ℕ → Type 0
+Meets [] v w m = (w ≡ v) × (m ≡ 0)
+Meets (r ∷ rs) v w m =
+    (c : ℕ) × FirstOne r c × (((entry v c ≡ true) × ((l : ℕ) × (m ≡ l + 1) × Meets rs (add v r) w l)) ⊎ ((entry v c ≡ false) × Meets rs v w m))
+
+-- the row meets the rows kept so far; what remains, if it is not zero, is kept, and the point with it
+pub record Step (e e′ : Elimination) (a : ℕ) (v : Row) : Type 0 where
+  pub remains : Row
+  pub made : ℕ
+  pub meets : Meets (e .kept) v remains made
+  pub additions : e′ .additions ≡ e .additions + made
+  pub not-kept : Zero remains → (e′ .kept ≡ e .kept) × (e′ .points ≡ e .points)
+  pub kept : ¬ Zero remains → (e′ .kept ≡ e .kept ++ (remains ∷ [])) × (e′ .points ≡ e .points ++ (a ∷ []))
+
+-- the smaller points of a list
+abbrev pub smaller : ℕ → List ℕ → List ℕ
+smaller a ps = select (λ q. ltb q a) ps
+
+-- a point whose row is no sum of rows of smaller points
+abbrev pub KeptPoint : ℕ → ℕ → List ℕ → ℕ → Type 0
+KeptPoint n d ps a = List·Memᴰ a ps × (¬ SumOf (rows graded n d (smaller a ps)) (row graded n d a))
+
+-- one number is the rank of both
+abbrev pub SameRank : ℕ → ℕ → List ℕ → List ℕ → Type 0
+SameRank n d ps qs = (r : ℕ) × Rank (rows graded n d ps) r × Rank (rows graded n d qs) r
+
+-- a condition on the inputs, and the number of the refusal where it does not hold
+infixl 70 _unless_
+pub data Rule : Type 1 where
+  _unless_ : ℕ → Type 0 → Rule
+
+-- the rules before it hold, and it does not
+abbrev pub FirstBroken : List Rule → ℕ → Type 0
+FirstBroken [] k = ⊥
+FirstBroken (m unless P ∷ rs) k = ((¬ P) × (k ≡ m)) ⊎ (P × FirstBroken rs k)
+
+-- from 1 to 9
+abbrev pub FewTaps : ℕ → Type 0
+FewTaps n = (1 ≤ n) × (n ≤ 9)
+
+-- the 0/1/0 rule
+abbrev pub Formed : ℕ → List ℕ → Type 0
+Formed n b = ((a : ℕ) → a < size n → getD b a 0 ≤ 1) × ((a : ℕ) → size n ≤ a → getD b a 0 ≡ 0)
+
+-- a point in the set
+abbrev pub HasPoint : List ℕ → Type 0
+HasPoint s = (a : ℕ) × List·Memᴰ a (points s)
+
+-- 1: mask or workspace length; 4; 8; 10: d over n
+abbrev pub rankRules : List ℕ → ℕ → ℕ → ℕ → List Rule
+rankRules b n d m = 1 unless (length b ≡ 512) ∷ 1 unless (m ≡ 8192) ∷ 4 unless FewTaps n ∷ 8 unless Formed n b ∷ 10 unless (d ≤ n) ∷ []
+
+-- 1: set, table, workspace or either of two 512-byte witness buffers; 4; 8 for the set, then the table; 6: no point in S
+abbrev pub judgeRules : List ℕ → List ℕ → ℕ → ℕ → ℕ → ℕ → List Rule
+judgeRules s f n m p q =
+    1 unless (length s ≡ 512)
+    ∷ 1 unless (length f ≡ 512)
+    ∷ 1 unless (m ≡ 8192)
+    ∷ 1 unless (p ≡ 512)
+    ∷ 1 unless (q ≡ 512)
+    ∷ 4 unless FewTaps n
+    ∷ 8 unless Formed n s
+    ∷ 8 unless Formed n f
+    ∷ 6 unless HasPoint s
+    ∷ []
+
+-- 1: set, table, workspace, or a certificate of 4,096 numbers; 4; 8 for set, table; 6; 10; 11: side over 1; 12: at d the part's rank differs from that of S
+abbrev pub certifyRules : List ℕ → List ℕ → ℕ → ℕ → ℕ → ℕ → ℕ → List Rule
+certifyRules s f n side d m l =
+    1 unless (length s ≡ 512)
+    ∷ 1 unless (length f ≡ 512)
+    ∷ 1 unless (m ≡ 8192)
+    ∷ 1 unless (l ≡ 4096)
+    ∷ 4 unless FewTaps n
+    ∷ 8 unless Formed n s
+    ∷ 8 unless Formed n f
+    ∷ 6 unless HasPoint s
+    ∷ 10 unless (d ≤ n)
+    ∷ 11 unless (side ≤ 1)
+    ∷ 12 unless SameRank n d (points s) (part side s f)
+    ∷ []
+
+-- on elimination, and on Rank
+pub record RankWords : Type 0 where
+  -- the row of a point at degree d has one column for each exponent of weight at most d,
+  pub columns-are : (n d u : ℕ) → n ≤ 9 → List·Memᴰ u (columns graded n d) ↔ ((u < size n) × (weight u ≤ d))
+  -- in graded order;
+  pub columns-ordered : (n d i j : ℕ) → n ≤ 9 → i < j → j < length (columns graded n d) → Precedes (getD (columns graded n d) i 0) (getD (columns graded n d) j 0)
+  pub row-long : (n d a : ℕ) → length (row graded n d a) ≡ length (columns graded n d)
+  -- its entry is 1 where each one bit of the exponent is a one bit of the point
+  pub row-entry : (n d a c : ℕ) → c < length (columns graded n d)
+      → (entry (row graded n d a) c ≡ true) ↔ ((i : ℕ) → getD (columns graded n d) c 0 / 2 ^ i % 2 ≤ a / 2 ^ i % 2)
+  -- the points of a mask are those where it is 1, those of a part are the points of the set where the table is the side
+  pub points-are : (b : List ℕ) (a : ℕ) → List·Memᴰ a (points b) ↔ (getD b a 0 ≡ 1)
+  pub part-is : (side : ℕ) (s f : List ℕ) (a : ℕ) → List·Memᴰ a (part side s f) ↔ ((getD s a 0 ≡ 1) × (getD f a 0 ≡ side))
+  -- elimination takes the points in rising number
+  pub points-rise : (b : List ℕ) → Rising (points b)
+  pub part-rises : (side : ℕ) (s f : List ℕ) → Rising (part side s f)
+  -- nothing is kept and nothing added before the first
+  pub begins : (n d : ℕ) → let e : Elimination = eliminated graded n d [] in (e .kept ≡ []) × (e .points ≡ []) × (e .additions ≡ 0)
+  -- each row meets the rows kept so far, in the order kept: if it has a one in a kept row's first nonzero column, that kept row is added
+  -- to it, one addition each; what remains, if not zero, is kept
+  pub step : (n d : ℕ) (ps : List ℕ) (a : ℕ) → Step (eliminated graded n d ps) (eliminated graded n d (ps ++ (a ∷ []))) a (row graded n d a)
+  -- a sum of no rows or columns is zero
+  pub no-rows : (v : Row) → SumOf [] v ↔ Zero v
+  -- a point is kept exactly when its row is not a sum of rows of the points taken before it, which are the smaller ones
+  pub kept : (n d : ℕ) (ps : List ℕ) → Rising ps → (a : ℕ) → List·Memᴰ a (eliminated graded n d ps .points) ↔ KeptPoint n d ps a
+  -- the rank is the number kept, and the additions are those of the elimination
+  pub rank-kept : (b : List ℕ) (n d : ℕ) (r : Ranked) → RankAccepts b n d r → let e : Elimination = eliminated graded n d (points b) in
+      (r .rank ≡ length (e .kept)) × (r .rank ≡ length (e .points)) × (r .additions ≡ e .additions)
+  -- an empty mask is accepted: 0 and 0
+  pub empty-mask : (n d : ℕ) → FewTaps n → d ≤ n → RankAccepts (zeros 512) n d (record { rank = 0; additions = 0 })
+  -- a refusal is by the number of the first rule that does not hold
+  pub refuses : (b : List ℕ) (n d m k : ℕ) → (rankOutcome graded b n d m ≡ refused k) ↔ FirstBroken (rankRules b n d m) k
+
+-- on what Judge answers and leaves
+pub record JudgeWords (n : ℕ) (s f : List ℕ) (j : Judgement) (k : ℕ) : Type 0 where
+  -- the ranks are all 0 for d past n
+  pub past-n : (d : ℕ) → n < d → (setRank j d ≡ 0) × ((side : ℕ) → side ≤ 1 → ofSide side (partRanks j d) ≡ 0)
+  -- the side is 1 if side 1 differs at k,
+  pub side-1 : ¬ GivenEqual j 1 k → j .side ≡ 1
+  -- else 0
+  pub side-0 : GivenEqual j 1 k → j .side ≡ 0
+  -- the additions are summed over the 3 × (n + 1) eliminations; finding a witness adds nothing to that count
+  pub additions : j .additions
+      ≡ summed (λ d. eliminated graded n d (points s) .additions + eliminated graded n d (part 1 s f) .additions + eliminated graded n d (part 0 s f) .additions) (below (n + 1))
+  -- each side's buffer is a mask of coefficients: 512 bytes, by the 0/1/0 rule
+  pub buffer-long : (side : ℕ) → side ≤ 1 → length (ofSide side (j .witnesses)) ≡ 512
+  pub buffer-formed : (side : ℕ) → side ≤ 1 → Formed n (ofSide side (j .witnesses))
+  -- it holds the side's witness if that side differs at k,
+  pub witness : (side : ℕ) → side ≤ 1 → ¬ GivenEqual j side k → IsWitness graded n k (points s) (part side s f) (member (ofSide side (j .witnesses)))
+  -- else zeros
+  pub no-witness : (side : ℕ) → side ≤ 1 → GivenEqual j side k → ofSide side (j .witnesses) ≡ zeros 512
+  -- the witness is the only polynomial on kept columns that is 0 on the part and 1 at p
+  pub only-witness : (side : ℕ) (w : Polynomial) → side ≤ 1 → IsWitness graded n k (points s) (part side s f) w
+      → (u : ℕ) → u < size n → w u ≡ member (ofSide side (j .witnesses)) u
+  -- Certify refuses by 12 exactly where at d the part's rank differs from that of S
+  pub differs-12 : (side d : ℕ) → side ≤ 1 → d ≤ n → (certifyOutcome graded s f n side d 8192 4096 ≡ refused 12) ↔ (¬ GivenEqual j side d)
+
+-- on what Certify writes
+pub record CertifyWords (n : ℕ) (s f : List ℕ) (side d : ℕ) (c : List ℕ) : Type 0 where
+  -- for a in S outside the part, bit q mod 64 of number q / 64 of row a is 1 exactly for the kept q whose rows sum to the row of a; all other bits are 0
+  pub is : IsCertificate graded n d (points s) (part side s f) c
+  -- the numbers are of 64 bits
+  pub numbers : (i : ℕ) → getD c i 0 < 2 ^ 64
+  -- nothing else is such a certificate
+  pub only : (b : List ℕ) → IsCertificate graded n d (points s) (part side s f) b → ((i : ℕ) → getD b i 0 < 2 ^ 64) → b ≡ c
+
+-- on what Hand over hands back
+pub record HandOverWords (n side : ℕ) (w : Sides (List ℕ)) (handed : List ℕ) : Type 0 where
+  -- the part handed back is the first N bytes of the buffer of that side
+  pub handed-back : FewTaps n → side ≤ 1 → length (w .one) ≡ 512 → length (w .zero) ≡ 512 → handed ≡ take (size n) (ofSide side w)
+  -- if n, the side or a length is wrong, the part is empty; that is its only refusal
+  pub empty : (FewTaps n × (side ≤ 1) × (length (w .one) ≡ 512) × (length (w .zero) ≡ 512) → ⊥) → handed ≡ []
+
+-- all of them
+pub record JudgementWords : Type 0 where
+  -- on elimination, and on Rank
+  pub rank : RankWords
+  -- a refusal of Judge is by the number of the first rule that does not hold
+  pub judge-refuses : (n : ℕ) (s f : List ℕ) (m p q k : ℕ) → (judgeOutcome graded s f n m p q ≡ refused k) ↔ FirstBroken (judgeRules s f n m p q) k
+  -- where Judge accepts, what it answers and leaves is as its sentences say
+  pub judge : (n : ℕ) (s f : List ℕ) (j : Judgement) (k : ℕ) → JudgeAccepts graded n s f j → j .degree ≡ some k → JudgeWords n s f j k
+  -- a refusal of Certify is by the number of the first rule that does not hold
+  pub certify-refuses : (n : ℕ) (s f : List ℕ) (side d m l k : ℕ) → (certifyOutcome graded s f n side d m l ≡ refused k)
+      ↔ FirstBroken (certifyRules s f n side d m l) k
+  -- where Certify accepts, so is what it writes
+  pub certify : (n : ℕ) (s f : List ℕ) (side d : ℕ) (c : List ℕ) → CertifyAccepts graded n s f side d c → CertifyWords n s f side d c
+  -- and so is what Hand over hands back
+  pub hand-over : (n side : ℕ) (w : Sides (List ℕ)) (handed : List ℕ) → HandOverContract n side w handed → HandOverWords n side w handed
