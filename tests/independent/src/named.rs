@@ -19,7 +19,7 @@ fn named(name: &str, n: usize, set: impl Fn(usize) -> bool, table: impl Fn(usize
 }
 
 // Tap i of the point a of n taps: x1 is the highest bit.
-fn tap(n: usize, a: usize, i: usize) -> bool {
+pub fn tap(n: usize, a: usize, i: usize) -> bool {
     a >> (n - i) & 1 == 1
 }
 
@@ -28,8 +28,8 @@ fn sum_of_products(n: usize, a: usize, products: &[&[usize]]) -> bool {
     products.iter().filter(|product| product.iter().all(|i| tap(n, a, *i))).count() % 2 == 1
 }
 
-// A weightwise perfectly balanced function of eight taps: that of Carlet, Méaux and Rotella, as Bonamino and Méaux have
-// it (docs/SPECIFICATION.md, 'Sources').
+// A weightwise perfectly balanced function of eight taps: that of Carlet, Méaux and Rotella, whose degrees Bonamino and
+// Méaux print (docs/SPECIFICATION.md, 'Sources').
 pub fn perfectly_balanced(a: usize) -> bool {
     sum_of_products(8, a, &[&[1], &[2], &[3], &[4], &[1, 5], &[2, 6], &[1, 3, 5, 7]])
 }
