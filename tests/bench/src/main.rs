@@ -75,9 +75,9 @@ fn compare_judges() {
 fn bench_operations(title: &str, set: &[u8], table: &[u8]) {
     let subject = Subject::new(9, set.to_vec(), table.to_vec());
     println!("Every operation and the independent implementation's, n = 9, {title}; microseconds, least of {FEW} runs");
-    println!("           proved     other  ratio");
+    println!("             proved     other  ratio");
     for (name, times) in NAMES.iter().zip(subject.times(FEW, 2)) {
-        println!("{name:7}{}", line(&times));
+        println!("{name:9}{}", line(&times));
     }
     println!("The sheet is a process; one without input takes {:.1}", process_start(RUNS));
 }

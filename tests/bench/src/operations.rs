@@ -2,8 +2,8 @@
 use crate::contenders::Certify;
 use crate::timing::{Contender, race};
 use independent::filter_file::{Triple, read};
-use independent::judgement::{Filter, Judgement, certify, judge};
-use independent::normal_form::convert;
+use independent::judgement::{Filter, Judgement, certify, hand_over, judge};
+use independent::normal_form::{convert, degree};
 use independent::rank::{Ranking, points_of, rank};
 use independent::sheet::sheet;
 use program::{printed, run, sheet_program};
@@ -12,20 +12,24 @@ use std::process::Command;
 
 type Read = fn(&[u8], &mut [u8], &mut [u8]) -> Result<usize, u8>;
 type Convert = fn(&mut [u8], usize) -> Result<(), u8>;
+type Degree = fn(&[u8], usize) -> Result<u32, u8>;
 type Rank = fn(&[u8], usize, usize, &mut [u64]) -> Result<Ranking, u8>;
 type Judge = fn(Filter, &mut [u64], &mut [u8], &mut [u8]) -> Result<Judgement, u8>;
+type HandOver = fn(usize, u8, &[u8], &[u8], &mut [u8]) -> usize;
 type Sheet = fn(&[u8]) -> String;
 
 // The names of the operations that are timed, in order.
-pub const NAMES: [&str; 6] = ["Read", "Convert", "Rank", "Judge", "Certify", "sheet"];
+pub const NAMES: [&str; 8] = ["Read", "Convert", "Degree", "Rank", "Judge", "Certify", "Hand over", "sheet"];
 
-// A filter, its file and what Judge answers.
+// A filter, its file, the coefficients of its table, and what Judge answers and leaves in the witness buffers.
 pub struct Subject {
     n: usize,
     set: Vec<u8>,
     table: Vec<u8>,
     file: Vec<u8>,
+    coefficients: Vec<u8>,
     pub judgement: Judgement,
+    witnesses: [[u8; 512]; 2],
 }
 
 // What the sheet program prints for the input, in a process of its own.
@@ -39,6 +43,13 @@ pub fn process_start(runs: usize) -> f64 {
     race(runs, &[start]).1[0]
 }
 
+// Hand over of the independent implementation, the part copied as the library copies it.
+fn hand_over_copy(n: usize, side: u8, one: &[u8], zero: &[u8], copy: &mut [u8]) -> usize {
+    let part = hand_over(n, side, one, zero);
+    copy[..part.len()].copy_from_slice(part);
+    part.len()
+}
+
 // The least microseconds of the first of the two, or of both, which answer alike.
 fn timed<A: PartialEq + Debug>(runs: usize, count: usize, both: [impl Fn(&mut [u64]) -> A; 2]) -> Vec<f64> {
     let contenders: Vec<Contender<A>> = both.into_iter().take(count).map(|one| Box::new(one) as Contender<A>).collect();
@@ -49,10 +60,11 @@ impl Subject {
     // The filter of these masks.
     pub fn new(n: usize, set: Vec<u8>, table: Vec<u8>) -> Subject {
         let file = Triple { n, set: points_of(&set), table: points_of(&table) }.file();
-        let filter = Filter { n, set: &set, table: &table };
-        let judged = library::judge(filter, &mut [0; 8192], &mut [0; 512], &mut [0; 512]);
-        let judgement = judged.expect("a filter that Judge accepts");
-        Subject { n, set, table, file, judgement }
+        let (mut coefficients, mut witnesses) = (table.clone(), [[0; 512]; 2]);
+        library::convert(&mut coefficients, n).expect("a table that Convert accepts");
+        let ([one, zero], filter) = (&mut witnesses, Filter { n, set: &set, table: &table });
+        let judgement = library::judge(filter, &mut [0; 8192], one, zero).expect("a filter that Judge accepts");
+        Subject { n, set, table, file, coefficients, judgement, witnesses }
     }
 
     // The number of points.
@@ -83,6 +95,11 @@ impl Subject {
         }
     }
 
+    // Degree of the table's normal form.
+    fn degree(&self, degree: Degree) -> impl Fn(&mut [u64]) -> u32 {
+        move |_| degree(&self.coefficients, self.n).expect("accepted")
+    }
+
     // Rank of the set at degree n.
     fn rank(&self, rank: Rank) -> impl Fn(&mut [u64]) -> Ranking {
         move |workspace| rank(&self.set, self.n, self.n, workspace).expect("accepted")
@@ -102,6 +119,14 @@ impl Subject {
         }
     }
 
+    // Hand over of the reported side's witness.
+    fn hand_over(&self, hand_over: HandOver) -> impl Fn(&mut [u64]) -> (usize, [u8; 512]) {
+        move |_| {
+            let ([one, zero], mut copy) = (&self.witnesses, [0; 512]);
+            (hand_over(self.n, self.judgement.side, one, zero, &mut copy), copy)
+        }
+    }
+
     // The sheet of the file.
     fn sheet(&self, sheet: Sheet) -> impl Fn(&mut [u64]) -> String {
         move |_| sheet(&self.file)
@@ -109,13 +134,15 @@ impl Subject {
 
     // The least microseconds of each operation: of the proved one if the count is 1, and of the independent one besides
     // if it is 2.
-    pub fn times(&self, runs: usize, count: usize) -> [Vec<f64>; 6] {
+    pub fn times(&self, runs: usize, count: usize) -> [Vec<f64>; 8] {
         [
             timed(runs, count, [self.read(library::read), self.read(read)]),
             timed(runs, count, [self.convert(library::convert), self.convert(convert)]),
+            timed(runs, count, [self.degree(library::degree), self.degree(degree)]),
             timed(runs, count, [self.rank(library::rank), self.rank(rank)]),
             timed(runs, count, [self.judge(library::judge), self.judge(judge)]),
             timed(runs, count, [self.certify(library::certify), self.certify(certify)]),
+            timed(runs, count, [self.hand_over(library::hand_over), self.hand_over(hand_over_copy)]),
             timed(runs, count, [self.sheet(run_sheet), self.sheet(sheet)]),
         ]
     }
