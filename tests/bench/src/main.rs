@@ -17,10 +17,11 @@ use independent::normal_form::weight;
 use independent::random::Random;
 use independent::samples::{mask_of, pairs};
 use operations::{NAMES, Subject, process_start};
-use timing::{line, race};
+use timing::{line, means, race};
 
 const RUNS: usize = 120;
-const FEW: usize = 10; // of the independent implementation, which is slow
+const FEW: usize = 10; // of the independent implementation, which is slow, and of each of several tables
+const TABLES: u64 = 12;
 
 // The heads of the columns of times: the contenders that there are.
 fn heads(m4ri: bool) -> String {
@@ -29,34 +30,34 @@ fn heads(m4ri: bool) -> String {
     format!("{:>10}{}", "proved", there.map(|(name, _)| format!("{name:>10}  ratio")).collect::<String>())
 }
 
-// Rank at n = 9 and every degree, with the sums.
+// Rank at n = 9 and every degree, with the means.
 fn bench_rank(title: &str, mask: &[u8]) {
-    println!("Rank, n = 9, {title}; microseconds, least of {RUNS} runs");
+    println!("Rank, n = 9, {title}; microseconds, least of {RUNS} runs, the degrees in turn");
     println!(" d  rank additions{}", heads(false));
-    let mut sums = vec![0.0; 3];
-    for d in 0..=9 {
-        let (found, times) = race(RUNS, &ranks(mask, d));
-        sums.truncate(times.len());
-        sums.iter_mut().zip(&times).for_each(|(sum, time)| *sum += time);
-        println!("{d:2} {:5} {:9}{}", found.rank, found.additions, line(&times));
+    let found = race(RUNS, &[0, 1, 2, 3, 4, 5, 6, 7, 8, 9].map(|d| ranks(mask, d)));
+    for (d, (ranking, times)) in found.iter().enumerate() {
+        println!("{d:2} {:5} {:9}{}", ranking.rank, ranking.additions, line(times));
     }
-    println!("sum              {}", line(&sums));
+    println!("mean             {}", line(&means(&found)));
 }
 
-// Judge at n = 9, and Certify of both sides at the degree before the reported one.
-fn bench_judgement(title: &str, set: &[u8], table: &[u8]) {
-    let filter = Filter { n: 9, set, table };
-    let ((judgement, _), times) = race(RUNS, &judges(filter));
-    let k = judgement.degree;
-    println!("Judge and Certify, n = 9, {title}; microseconds, least of {RUNS} runs");
+// Judge at n = 9 of the set with tables drawn at random, and Certify of both sides at the degree before the reported one.
+fn bench_judgement(title: &str, set: &[u8]) {
+    let tables: Vec<Vec<u8>> = (1..=TABLES).map(|seed| Random(seed).mask(9, 4)).collect();
+    let filters: Vec<Filter> = tables.iter().map(|table| Filter { n: 9, set, table }).collect();
+    println!(
+        "Judge and Certify, n = 9, {title}; microseconds, least of {FEW} runs, mean of {TABLES} random tables in turn"
+    );
     println!("                 {}", heads(true));
-    println!("Judge, degree {k}  {}", line(&times));
-    if let Some([build, echelonize]) = m4ri_steps(RUNS, filter) {
+    let judged = race(FEW, &filters.iter().map(|filter| judges(*filter)).collect::<Vec<_>>());
+    println!("Judge            {}", line(&means(&judged)));
+    if let Some([build, echelonize]) = m4ri_steps(RUNS, filters[0]) {
         println!("M4RI, the ranks alone, from 30 matrices: build {build:.1}, echelonize {echelonize:.1}");
     }
-    for (d, side) in k.checked_sub(1).into_iter().flat_map(|d| [(d, 1), (d, 0)]) {
-        let (_, times) = race(RUNS, &certifies(filter, side, d));
-        println!("side {side}, d = {d}    {}", line(&times));
+    for side in [1, 0] {
+        let found = filters.iter().zip(&judged);
+        let inputs = found.map(|(filter, ((judgement, _), _))| certifies(*filter, side, judgement.degree - 1));
+        println!("Certify, side {side}  {}", line(&means(&race(FEW, &inputs.collect::<Vec<_>>()))));
     }
 }
 
@@ -66,7 +67,7 @@ fn compare_judges() {
     let kinds = pairs(&[1, 2, 3, 4, 5, 6, 7, 8, 9], &pairs(&[0, 1, 2, 3, 4, 5], &[0, 1, 2, 3, 4]));
     for (n, (for_set, for_table)) in &kinds {
         let (set, table) = (random.set(*n, *for_set), random.table(*n, *for_table));
-        race(1, &judges(Filter { n: *n, set: &set, table: &table }));
+        race(1, &[judges(Filter { n: *n, set: &set, table: &table })]);
     }
     println!("Judge of {} filters of one to nine taps: every contender gives the proved answer", kinds.len());
 }
@@ -117,8 +118,8 @@ fn main() {
     compare_judges();
     bench_rank("all 512 points", &all);
     bench_rank("a random half", &half);
-    bench_judgement("all 512 points, a random table", &all, &half);
-    bench_judgement("the 126 points of weight 4, a random table", &mask_of(9, |a| weight(a) == 4), &half);
+    bench_judgement("all 512 points", &all);
+    bench_judgement("the 126 points of weight 4", &mask_of(9, |a| weight(a) == 4));
     bench_operations("all 512 points, a random table", &all, &half);
     bench_growth("n: all points, majority", (1..=9).map(|n| (n, mask_of(n, |_| true), Random(1).table(n, 0))));
     let sizes = [16, 32, 64, 128, 192, 256, 320, 384, 448, 512];

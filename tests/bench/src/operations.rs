@@ -1,6 +1,6 @@
 // The operations on one filter, proved and by the independent implementation, each timed.
 use crate::contenders::Certify;
-use crate::timing::{Contender, race};
+use crate::timing::{Contender, means, race};
 use independent::filter_file::{Triple, read};
 use independent::judgement::{Filter, Judgement, certify, hand_over, judge};
 use independent::normal_form::{convert, degree};
@@ -40,7 +40,7 @@ fn run_sheet(input: &[u8]) -> String {
 // The least microseconds of a process of the sheet program that is given no input.
 pub fn process_start(runs: usize) -> f64 {
     let start: Contender<String> = Box::new(|_| run_sheet(&[]));
-    race(runs, &[start]).1[0]
+    means(&race(runs, &[vec![start]]))[0]
 }
 
 // Hand over of the independent implementation, the part copied as the library copies it.
@@ -52,8 +52,8 @@ fn hand_over_copy(n: usize, side: u8, one: &[u8], zero: &[u8], copy: &mut [u8]) 
 
 // The least microseconds of the first of the two, or of both, which answer alike.
 fn timed<A: PartialEq + Debug>(runs: usize, count: usize, both: [impl Fn(&mut [u64]) -> A; 2]) -> Vec<f64> {
-    let contenders: Vec<Contender<A>> = both.into_iter().take(count).map(|one| Box::new(one) as Contender<A>).collect();
-    race(runs, &contenders).1
+    let contenders = both.into_iter().take(count).map(|one| Box::new(one) as Contender<A>).collect();
+    means(&race(runs, &[contenders]))
 }
 
 impl Subject {

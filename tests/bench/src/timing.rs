@@ -6,21 +6,34 @@ use std::time::Instant;
 // What is timed: a function that is lent a workspace.
 pub type Contender<'a, A> = Box<dyn Fn(&mut [u64]) -> A + 'a>;
 
-// The answer that all contenders give, and the least microseconds of each over so many calls. They take turns, each
-// with a workspace of its own that is not cleared between calls.
-pub fn race<A: PartialEq + Debug>(runs: usize, contenders: &[Contender<A>]) -> (A, Vec<f64>) {
-    let mut workspaces = vec![vec![0; 8192]; contenders.len()];
-    let mut least = vec![f64::INFINITY; contenders.len()];
-    let wanted = contenders[0](&mut workspaces[0]);
-    for _ in 0..runs {
-        for (i, contender) in contenders.iter().enumerate() {
-            let start = Instant::now();
-            let answer = black_box(contender(&mut workspaces[i]));
-            least[i] = least[i].min(start.elapsed().as_secs_f64() * 1e6);
-            assert_eq!(answer, wanted, "contender {i} answers otherwise");
-        }
+// Calls each contender once, with its own workspace, which is not cleared between calls. All answer what is wanted; the
+// microseconds that each takes are kept where they are the least so far.
+fn turn<A: PartialEq + Debug>(contenders: &[Contender<A>], workspaces: &mut [Vec<u64>], wanted: &A, least: &mut [f64]) {
+    for (i, contender) in contenders.iter().enumerate() {
+        let start = Instant::now();
+        let answer = black_box(contender(&mut workspaces[i]));
+        least[i] = least[i].min(start.elapsed().as_secs_f64() * 1e6);
+        assert_eq!(answer, *wanted, "contender {i} answers otherwise");
     }
-    (wanted, least)
+}
+
+// For each input the answer that all its contenders give, and the least microseconds of each over so many rounds. In a
+// round the inputs take turns, since a processor that meets the same input call after call foresees its branches.
+pub fn race<A: PartialEq + Debug>(rounds: usize, inputs: &[Vec<Contender<A>>]) -> Vec<(A, Vec<f64>)> {
+    let mut workspaces = vec![vec![0; 8192]; inputs[0].len()];
+    let untimed = |input: &Vec<Contender<A>>| (input[0](&mut [0; 8192]), vec![f64::INFINITY; input.len()]);
+    let mut found: Vec<(A, Vec<f64>)> = inputs.iter().map(untimed).collect();
+    for _ in 0..rounds {
+        let turns = inputs.iter().zip(&mut found);
+        turns.for_each(|(input, (wanted, least))| turn(input, &mut workspaces, wanted, least));
+    }
+    found
+}
+
+// The mean times of each contender over the inputs.
+pub fn means<A>(found: &[(A, Vec<f64>)]) -> Vec<f64> {
+    let mean = |i: usize| found.iter().map(|(_, times)| times[i]).sum::<f64>() / found.len() as f64;
+    (0..found[0].1.len()).map(mean).collect()
 }
 
 // The times in microseconds, and the first one's ratio to each of the others.
