@@ -7,6 +7,7 @@ pub mod Encoded
 pub mod Faults
 pub mod Held
 pub mod ListMasks
+pub mod Locals
 pub mod Longest
 pub mod Marked
 pub mod NumbersDrawn
