@@ -1,6 +1,7 @@
 -- What the bytes of a filter file say, and the bytes that say it.
 pub mod Fault
 pub mod File
+pub mod OpenList
 pub mod PointList
 pub mod Progress
 pub mod Read

@@ -1,43 +1,49 @@
 -- Lists of points: docs/SPECIFICATION.md, 'Filter file'. The count, then the first point itself, then for each later
 -- point its difference from the one before.
 --   before p o                    a point before the points that the outcome o draws
+--   pointBy m prev least o f      a point below m, prev and the difference that the outcome o draws, and then the points of f
 --   pointsFrom m k prev least s   k points below m from the bytes s: the next is prev and a difference of at least `least`
---   pointList least m s           a list of at least `least` points below m: refused by 2, 3, 5 or 6
+--   listBy least m o              a list of at least `least` points below m, whose count is what the outcome o draws
+--   pointList least m s           the list that the bytes s begin with: refused by 2, 3, 5 or 6
 --   RisingFrom low m ps           the points ps rise, from low on, and are below m
 --   differences prev ps           the bytes of the points ps, each as its difference from the one before, the first from prev
 --   encodeList ps                 the bytes of the list ps
 --   markDrawn b o                 the bytes b, marked at the points that the outcome o draws, with the bytes that remain
---   outcomeOf s b r               what the code's answer r says of the bytes s of a file, where it leaves the bytes b
 use mathlib.Core.List.{List, [], _∷_, _++_}
 use Prim.Native.Nat.{ℕ, zero, suc, _+_, _-_, _≤_, _<_}
 use lib.Dec.{leb, ltb}
-use lib.ListN.{length, drop}
+use lib.ListN.{length}
 use Rattle.refusal.specs.declared.Refusal.the-variants.{Range, EmptySet}
-use Rattle.refusal.specs.Refusal.{numberOf}
 use Rattle.refusal.specs.Outcome.{Outcome, refused, accepted, _otherwise_, checked}
 use Rattle.cube.specs.Mask.{withOnes}
 use Rattle.varint.specs.Drawn.{Drawn, _leaving_, draw}
 use Rattle.varint.specs.Varint.{varint, encodeVarint}
-use Rattle.filter_file.specs.declared.list.Listed.{Listed}
-use Rattle.filter_file.specs.declared.list.Listed.the-variants.{Next, Refused}
 
 -- a point before those that an outcome draws
 abbrev pub before : ℕ → Outcome (Drawn (List ℕ)) → Outcome (Drawn (List ℕ))
 before p (refused k) = refused k
 before p (accepted (ps leaving rest)) = accepted ((p ∷ ps) leaving rest)
 
+-- a point: its difference is at least `least`, and it is below m
+abbrev pub pointBy : ℕ → ℕ → ℕ → Outcome (Drawn ℕ) → (ℕ → List ℕ → Outcome (Drawn (List ℕ))) → Outcome (Drawn (List ℕ))
+pointBy m prev least o f =
+    draw o (λ v rest.
+    checked (leb least v otherwise Range ∷ ltb (prev + v) m otherwise Range ∷ []) (before (prev + v) (f (prev + v) rest)))
+
 -- k points below m: the next is prev and a difference of at least `least`, those after it differ by at least 1
 unfoldable pub pointsFrom : ℕ → ℕ → ℕ → ℕ → List ℕ → Outcome (Drawn (List ℕ))
 pointsFrom m zero prev least s = accepted ([] leaving s)
-pointsFrom m (suc k) prev least s =
-    draw (varint s) (λ v rest.
-    checked (leb least v otherwise Range ∷ ltb (prev + v) m otherwise Range ∷ []) (before (prev + v) (pointsFrom m k (prev + v) 1 rest)))
+pointsFrom m (suc k) prev least s = pointBy m prev least (varint s) (λ p rest. pointsFrom m k p 1 rest)
 
 -- a list of points below m: its count is at most m and at least `least`, and its first point is any
-unfoldable pub pointList : ℕ → ℕ → List ℕ → Outcome (Drawn (List ℕ))
-pointList least m s =
-    draw (varint s) (λ count rest.
+abbrev pub listBy : ℕ → ℕ → Outcome (Drawn ℕ) → Outcome (Drawn (List ℕ))
+listBy least m o =
+    draw o (λ count rest.
     checked (leb count m otherwise Range ∷ leb least count otherwise EmptySet ∷ []) (pointsFrom m count 0 0 rest))
+
+-- the count is a number, and the points follow it
+unfoldable pub pointList : ℕ → ℕ → List ℕ → Outcome (Drawn (List ℕ))
+pointList least m s = listBy least m (varint s)
 
 -- the first point is low or more, each later one is above the one before, and all are below m
 abbrev pub RisingFrom : ℕ → ℕ → List ℕ → Type 0
@@ -57,8 +63,3 @@ encodeList ps = encodeVarint (length ps) ++ differences 0 ps
 abbrev pub markDrawn : List ℕ → Outcome (Drawn (List ℕ)) → Outcome (Drawn (List ℕ))
 markDrawn b (refused k) = refused k
 markDrawn b (accepted (ps leaving rest)) = accepted (withOnes ps b leaving rest)
-
--- what the code's answer says: the place after the list stands for the bytes from there on
-abbrev pub outcomeOf : List ℕ → List ℕ → Listed → Outcome (Drawn (List ℕ))
-outcomeOf s b (Next at) = accepted (b leaving drop at s)
-outcomeOf s b (Refused r) = refused (numberOf r)

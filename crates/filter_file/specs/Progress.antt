@@ -2,15 +2,18 @@
 --   leave o rest            the value of the outcome o, and the bytes that remain after it
 --   outcomeOf s p           what the code's progress p says of the bytes s of a file
 --   beside b o              each value that the outcome o draws, beside the bytes b
+--   tapsBy o                n, where it is what the outcome o draws
 --   tapsOf s                n, the number that the bytes s begin with: refused by 2, 3 or 4
 --   listAfter o least b s   after the outcome o, which gives n: n, and the bytes b marked at a list of at least `least` points below N
 --   numbers b c s           n and the two lists of the file s: n, and the bytes b and c marked at the points of S and at those where f is 1
 --   Tapped r                where the code's answer r has read n, n is a number of taps
+--   refusedBy r             the code's progress where the file is refused
 use mathlib.Core.Path.{_≡_}
 use mathlib.Core.Bool.{true}
 use mathlib.Core.List.{List}
 use Prim.Native.Nat.{ℕ}
 use lib.ListN.{drop}
+use Rattle.refusal.specs.declared.Refusal.{Refusal}
 use Rattle.refusal.specs.declared.Refusal.the-variants.{Taps}
 use Rattle.refusal.specs.Outcome.{Outcome, refused, accepted, _otherwise_, after}
 use Rattle.cube.specs.Cube.{taps, size}
@@ -37,8 +40,12 @@ beside b (refused k) = refused k
 beside b (accepted (v leaving rest)) = accepted ((v, b) leaving rest)
 
 -- n, from 1 to 9
+abbrev pub tapsBy : Outcome (Drawn ℕ) → Outcome (Drawn ℕ)
+tapsBy o = draw o (λ n rest. after (taps n otherwise Taps) (accepted (n leaving rest)))
+
+-- the number that the bytes begin with
 unfoldable pub tapsOf : List ℕ → Outcome (Drawn ℕ)
-tapsOf s = draw (varint s) (λ n rest. after (taps n otherwise Taps) (accepted (n leaving rest)))
+tapsOf s = tapsBy (varint s)
 
 -- a list of points below N, where n is read
 unfoldable pub listAfter : Outcome ℕ → ℕ → List ℕ → List ℕ → Outcome (Drawn (ℕ × List ℕ))
@@ -56,3 +63,7 @@ numbers b c s =
 abbrev pub Tapped : ReadAnswer → Type 0
 Tapped (Accepted n) = taps n ≡ true
 Tapped (Refused r) = Unit {0}
+
+-- no number is drawn after a refusal, so its place is any
+abbrev pub refusedBy : Refusal → Progress
+refusedBy r = record { reading = Refused r; next = 0 }

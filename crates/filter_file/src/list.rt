@@ -1,68 +1,96 @@
-// A list of points at a place of a file: its count, then the first point itself, then for each later point its
-// difference from the one before.
+// A list of points, number by number as they are drawn: its count, then the first point itself, then for each later
+// point its difference from the one before.
 ghost use mathlib.Core.Path.{_≡_};
-ghost use Prim.Native.Nat.{_≤_};
-ghost use lib.ListN.{length, drop};
-ghost use Rattle.filter_file.specs.PointList.{pointsFrom, pointList, markDrawn, outcomeOf};
+ghost use mathlib.Core.Bool.{true};
+ghost use mathlib.Core.List.{List};
+ghost use Prim.Native.Nat.{ℕ, _<_};
+ghost use lib.ListN.{length};
+ghost use Rattle.cube.specs.Cube.{taps};
+ghost use Rattle.varint.specs.Varint.{outcomeOf};
+ghost use Rattle.filter_file.specs.OpenList.{remaining, afterCount, afterPoint, refusedList, Bounded};
+use crate::progress::Progress;
+use crate::progress::refused;
+use crate::read::ReadAnswer;
 use refusal::Refusal;
 use varint::Varint;
-use varint::varint_at;
 
-// How a list ends: the place after it, or why it is refused.
-pub enum Listed {
-    Next(usize),
-    Refused(Refusal),
+// A list whose count is drawn: what the file says so far, N, how many points are left, and what the next one is counted from.
+pub struct OpenList {
+    pub progress: Progress,
+    pub size: usize,
+    pub left: usize,
+    pub prev: usize,
+    pub least: usize,
 }
 
-// Draws `count` points below `size` from the place `from` on, and sets each in `out`.
-fn points_at(file: &[u8], from: usize, count: usize, size: usize, out: &mut [u8]) -> Listed
-    requires { ⌜ size ≤ length (now out) ⌝ }
-    ensures { λ r. ⌜ outcomeOf (now (file .entry)) (now (out .exit)) r
-        ≡ markDrawn (now (out .entry)) (pointsFrom size count 0 0 (drop from (now (file .entry)))) ⌝ }
+// A list of at least `least` points, whose count is the number drawn, after n.
+pub fn count_of(n: usize, least: usize, drawn: Varint) -> OpenList
+    requires { ⌜ taps n ≡ true ⌝ }
+    ensures { λ r. ⌜ ((b s : List ℕ) → remaining r b s ≡ afterCount n least b (outcomeOf s drawn)) × Bounded r ⌝ }
 {
-    let mut left = count;
-    let mut at = from;
-    let mut prev = 0;
-    let mut least = 0;
-    while left > 0 {
-        match varint_at(file, at) {
-            Varint::Refused(r) => {
-                return Listed::Refused(r);
-            }
-            Varint::Value { value, next } => {
-                if value < least {
-                    return Listed::Refused(Refusal::Range);
-                }
-                if value >= size - prev {
-                    return Listed::Refused(Refusal::Range);
-                }
-                prev += value;
-                out[prev] = 1;
-                at = next;
-            }
-        }
-        least = 1;
-        left -= 1;
-    }
-    Listed::Next(at)
-}
-
-// Draws a list of at least `least` points below `size` from the place `at` on, and sets each in `out`.
-pub fn list_at(file: &[u8], at: usize, least: usize, size: usize, out: &mut [u8]) -> Listed
-    requires { ⌜ size ≤ length (now out) ⌝ }
-    ensures { λ r. ⌜ outcomeOf (now (file .entry)) (now (out .exit)) r
-        ≡ markDrawn (now (out .entry)) (pointList least size (drop at (now (file .entry)))) ⌝ }
-{
-    match varint_at(file, at) {
-        Varint::Refused(r) => Listed::Refused(r),
+    match drawn {
+        Varint::Refused(r) => refused_list(r),
         Varint::Value { value, next } => {
+            let size = cube::size(n);
             if value > size {
-                return Listed::Refused(Refusal::Range);
+                return refused_list(Refusal::Range);
             }
             if value < least {
-                return Listed::Refused(Refusal::EmptySet);
+                return refused_list(Refusal::EmptySet);
             }
-            points_at(file, next, value, size, out)
+            OpenList {
+                progress: Progress {
+                    reading: ReadAnswer::Accepted(n),
+                    next,
+                },
+                size,
+                left: value,
+                prev: 0,
+                least: 0,
+            }
         }
+    }
+}
+
+// The list after its next point, which the number drawn tells: the point is set in `out`.
+pub fn point_of(list: OpenList, drawn: Varint, out: &mut [u8]) -> OpenList
+    requires { ⌜ (0 < list .left) × Bounded list × (length (now out) ≡ 512) ⌝ }
+    ensures { λ r. ⌜ ((s : List ℕ) → remaining r (now (out .exit)) s ≡ afterPoint list (now (out .entry)) (outcomeOf s drawn))
+        × (r .left < list .left) × Bounded r ⌝ }
+{
+    match drawn {
+        Varint::Refused(r) => refused_list(r),
+        Varint::Value { value, next } => {
+            if value < list.least {
+                return refused_list(Refusal::Range);
+            }
+            if value >= list.size - list.prev {
+                return refused_list(Refusal::Range);
+            }
+            let point = list.prev + value;
+            out[point] = 1;
+            let progress = list.progress;
+            let reading = progress.reading;
+            OpenList {
+                progress: Progress { reading, next },
+                size: list.size,
+                left: list.left - 1,
+                prev: point,
+                least: 1,
+            }
+        }
+    }
+}
+
+// A list that is refused: no point of it is left.
+fn refused_list(why: Refusal) -> OpenList
+    ensures { λ r. ⌜ r ≡ refusedList why ⌝ }
+{
+    OpenList {
+        progress: refused(why),
+        size: 0,
+        left: 0,
+        prev: 0,
+        least: 0,
     }
 }

@@ -1,13 +1,22 @@
 // The reader: one walks a file from its first byte, and every number is drawn from it.
-// Its functions are thin: each takes it apart and calls a function on slice and place, or hands it back moved. They are
-// proved by hand, since a reader holds a reference; `draw_all`, whose parameters are plain, serves every other caller.
+// `draw` takes it apart and calls the reader of numbers on slice and place, and `past` hands it back moved. What a number
+// says is decided by functions on plain values. The functions over a reader are proved by hand, since it holds a
+// reference; `draw_all`, whose parameters are plain, serves every other caller.
 ghost use mathlib.Core.Path.{_≡_};
+ghost use mathlib.Core.Bool.{true};
 ghost use lib.ListN.{length, drop};
+ghost use Rattle.refusal.specs.Outcome.{accepted};
+ghost use Rattle.cube.specs.Cube.{taps};
+ghost use Rattle.varint.specs.Varint.{varint, outcomeOf as drawnOf};
 ghost use Rattle.filter_file.specs.Progress.{tapsOf, listAfter, outcomeOf, beside, Tapped, numbers};
 ghost use Rattle.filter_file.specs.Read.{outcomeOf as readingOf};
+use crate::list::count_of;
+use crate::list::point_of;
 use crate::progress::Progress;
-use crate::progress::list_after;
-use crate::progress::taps_at;
+use crate::progress::taps_of;
+use crate::read::ReadAnswer;
+use varint::Varint;
+use varint::varint_at;
 
 // The bytes of a file, and the place of the next number.
 pub struct Reader<'a> {
@@ -23,11 +32,18 @@ impl<'a> Reader<'a> {
         Reader { src, at: 0 }
     }
 
+    // Draws the next number.
+    pub fn draw(self) -> Varint
+        ensures { λ r. ⌜ drawnOf (now (self .entry .src)) r ≡ varint (drop (self .entry .at) (now (self .entry .src))) ⌝ }
+    {
+        varint_at(self.src, self.at)
+    }
+
     // Draws n.
     pub fn draw_taps(self) -> Progress
         ensures { λ r. ⌜ outcomeOf (now (self .entry .src)) r ≡ tapsOf (drop (self .entry .at) (now (self .entry .src))) ⌝ }
     {
-        taps_at(self.src, self.at)
+        taps_of(self.draw())
     }
 
     // Draws a list of at least `least` points, and sets each in `out`, if nothing before it is refused.
@@ -36,7 +52,26 @@ impl<'a> Reader<'a> {
         ensures { λ r. ⌜ beside (now (out .exit)) (outcomeOf (now (self .entry .src)) r)
             ≡ listAfter (readingOf (before .reading)) least (now (out .entry)) (drop (self .entry .at) (now (self .entry .src))) ⌝ }
     {
-        list_after(self.src, self.at, before.reading, least, out)
+        let reading = before.reading;
+        match reading {
+            ReadAnswer::Refused(_) => before,
+            ReadAnswer::Accepted(n) => self.draw_points(n, least, out),
+        }
+    }
+
+    // Draws a list of at least `least` points after n: its count, then point by point.
+    fn draw_points(self, n: usize, least: usize, out: &mut [u8]) -> Progress
+        requires { ⌜ (length (now out) ≡ 512) × (taps n ≡ true) ⌝ }
+        ensures { λ r. ⌜ beside (now (out .exit)) (outcomeOf (now (self .entry .src)) r)
+            ≡ listAfter (accepted n) least (now (out .entry)) (drop (self .entry .at) (now (self .entry .src))) ⌝ }
+    {
+        let mut list = count_of(n, least, self.draw());
+        let mut reader = self.past(list.progress);
+        while list.left > 0 {
+            list = point_of(list, reader.draw(), out);
+            reader = reader.past(list.progress);
+        }
+        list.progress
     }
 
     // The reader, moved past what it has drawn.
