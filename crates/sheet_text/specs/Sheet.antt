@@ -6,10 +6,12 @@
 --   filterSheet n s f       the sheet of a filter
 --   sheetOf o               the sheet for what Read answers
 --   sheet file              the sheet of a file
+--   SheetContract file ..   the contract of the sheet: it stands at the front of the text, its length is answered, and what stood behind stays
+use mathlib.Core.Path.{_≡_}
 use mathlib.Core.List.{List, [], _++_}
 use mathlib.Core.Option.{Option, none, some}
 use Prim.Native.Nat.{ℕ, zero, suc}
-use lib.ListN.{length}
+use lib.ListN.{length, drop}
 use Rattle.refusal.specs.Outcome.{Outcome, refused, accepted}
 use Rattle.cube.specs.NumberLists.{lists}
 use Rattle.cube.specs.Mask.{points, mask}
@@ -55,3 +57,8 @@ sheetOf (accepted c) = filterSheet (c .n) (mask (lists (c .set))) (mask (lists (
 -- the sheet of a file
 unfoldable pub sheet : List ℕ → Text
 sheet file = sheetOf (readOutcome 512 512 file)
+
+-- the length of the sheet is answered, and the text is the sheet and what stood behind that length
+pub record SheetContract (file t t′ : List ℕ) (r : ℕ) : Type 0 where
+  pub answers : r ≡ length (sheet file)
+  pub leaves : t′ ≡ sheet file ++ drop r t

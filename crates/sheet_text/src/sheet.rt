@@ -1,7 +1,7 @@
 // The sheet of a file.
 ghost use mathlib.Core.Path.{_≡_};
 ghost use Prim.Native.Nat.{ℕ, _+_, _≤_, _<_};
-ghost use lib.ListN.{length, take};
+ghost use lib.ListN.{length};
 ghost use Rattle.order.specs.BuiltIn.{graded};
 ghost use Rattle.io.specs.Counts.{Counts};
 ghost use Rattle.immunity.specs.Judgement.{judged};
@@ -13,7 +13,7 @@ ghost use Rattle.text.specs.Room.{fieldRoom};
 ghost use Rattle.text.specs.Text.{Appends};
 ghost use Rattle.sheet_lines.specs.Room.{degreeLineRoom, sideSumsRoom, sumsRoom, textRoom};
 ghost use Rattle.sheet_lines.specs.Lines.{degreeLine};
-ghost use Rattle.sheet_text.specs.Sheet.{sideSums, sums, filterSheet, sheet as sheetOf};
+ghost use Rattle.sheet_text.specs.Sheet.{sideSums, sums, filterSheet, SheetContract};
 use certify::CERTIFICATE;
 use certify::certify;
 use cube::POINTS;
@@ -32,10 +32,10 @@ use sheet_lines::lines::refused_line;
 use sheet_lines::lines::sum_lines;
 use sheet_lines::room::TEXT;
 
-// The sheet of the file is written at the front of the text. The result is its length.
+// The sheet of the file is written at the front of the text; what stood behind it stays. The result is its length.
 pub fn sheet(file: &[u8], text: &mut [u8; TEXT]) -> usize
     ensures { λ r. ⌜ Counts r (now (text .exit)) ⌝ }
-    ensures { λ r. ⌜ take r (now (text .exit)) ≡ sheetOf (now (file .entry)) ⌝ }
+    ensures { λ r. ⌜ SheetContract (now (file .entry)) (now (text .entry)) (now (text .exit)) r ⌝ }
 {
     let mut set = [0u8; POINTS];
     let mut table = [0u8; POINTS];

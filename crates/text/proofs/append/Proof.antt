@@ -54,7 +54,7 @@ returns c =
     let l = c .before in
     let s = l .before in
     let a = s .args in
-    appends-paste (a .text .now) (a .at) (a .bytes .now) (l .loop .text) (l .loop .i) (l .loop .inv .0) (s .pre) (omega arith)
+    appends-paste (a .text .now) (a .at) (a .bytes .now) (l .loop .text) (l .loop .i) (l .loop .inv .0) (omega arith)
 
 pub append-spec : {M : Type 1} → statement M
 append-spec =

@@ -8,7 +8,7 @@ returns : tie.Need-returns
 returns c =
     let d = c .before .before in
     let s = d .before .before .before .before in
-    (appends-then (s .append .ensures) (d .append-decimal .ensures .0), (omega arith, λ small. omega (arith, d .append-decimal .ensures .1 .1 small)))
+    (appends-then (omega arith) (s .append .ensures) (d .append-decimal .ensures .0), (omega arith, λ small. omega (arith, d .append-decimal .ensures .1 .1 small)))
 
 pub append-field-spec : {M : Type 1} → statement M
 append-field-spec =

@@ -1,5 +1,7 @@
 use borrow.Author.Needs.{needs}
+use Prim.Native.Nat.{_≤_}
 use native.Mathlib.Omega.{arith}
+use lib.ListN.{length}
 use Rattle.text.proofs.Appending.{appends-then}
 use Rattle.text.proofs.append_heading.Statement.{statement}
 use Rattle.text.proofs.append_heading.Tie as tie
@@ -9,7 +11,9 @@ returns c =
     let t = c .before .before in
     let y = t .before .before .before .before in
     let x = y .before .before .before .before in
-    (appends-then (appends-then (x .append-labelled .ensures .0) (y .append-labelled2 .ensures .0)) (t .append .ensures), omega arith)
+    let s = x .before .before .before .before .before .before in
+    let inside : s .args .at ≤ length (s .args .text .now) = omega (arith, s .pre) in
+    (appends-then inside (appends-then inside (x .append-labelled .ensures .0) (y .append-labelled2 .ensures .0)) (t .append .ensures), omega arith)
 
 pub append-heading-spec : {M : Type 1} → statement M
 append-heading-spec =

@@ -7,7 +7,7 @@ use Rattle.text.proofs.append_labelled.Tie as tie
 returns : tie.Need-returns
 returns c =
     let f = c .before .before in
-    (appends-then (f .before .before .before .before .append .ensures) (f .append-field .ensures .0), omega arith)
+    (appends-then (omega arith) (f .before .before .before .before .append .ensures) (f .append-field .ensures .0), omega arith)
 
 pub append-labelled-spec : {M : Type 1} → statement M
 append-labelled-spec =

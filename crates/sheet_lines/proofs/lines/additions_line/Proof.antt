@@ -9,7 +9,7 @@ returns : tie.Need-returns
 unfolding ascii
 returns c =
     let e = c .before .before in
-    let done = appends-then (e .before .before .before .before .append-labelled .ensures .0) (e .end-line .ensures) in
+    let done = appends-then (omega arith) (e .before .before .before .before .append-labelled .ensures .0) (e .end-line .ensures) in
     (done, omega arith)
 
 pub additions-line-spec : {M : Type 1} → statement M

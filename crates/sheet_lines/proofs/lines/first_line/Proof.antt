@@ -1,5 +1,7 @@
 use borrow.Author.Needs.{needs}
+use Prim.Native.Nat.{_≤_}
 use native.Mathlib.Omega.{arith}
+use lib.ListN.{length}
 use Rattle.text.specs.Text.{ascii}
 use Rattle.text.proofs.Appending.{appends-then}
 use Rattle.sheet_lines.proofs.lines.first_line.Statement.{statement}
@@ -11,8 +13,12 @@ returns c =
     let e = c .before .before in
     let m = e .before .before .before .before in
     let p = m .before .before .before .before .before in
-    let n = p .before .before .before .before .before in (
-      appends-then (appends-then (appends-then (n .append-labelled .ensures .0) (p .append-labelled2 .ensures .0)) (m .append-labelled3 .ensures .0)) (e .end-line .ensures),
+    let n = p .before .before .before .before .before in
+    let s = n .before .before .before .before in
+    let inside : s .args .at ≤ length (s .args .text .now) = omega (arith, s .pre) in (
+      appends-then inside
+          (appends-then inside (appends-then inside (n .append-labelled .ensures .0) (p .append-labelled2 .ensures .0)) (m .append-labelled3 .ensures .0))
+          (e .end-line .ensures),
       omega arith,
     )
 

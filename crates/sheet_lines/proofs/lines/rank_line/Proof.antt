@@ -1,5 +1,7 @@
 use borrow.Author.Needs.{needs}
+use Prim.Native.Nat.{_≤_}
 use native.Mathlib.Omega.{arith}
+use lib.ListN.{length}
 use Rattle.text.proofs.Appending.{appends-then}
 use Rattle.sheet_lines.proofs.lines.rank_line.Statement.{statement}
 use Rattle.sheet_lines.proofs.lines.rank_line.Tie as tie
@@ -9,10 +11,12 @@ returns c =
     let e = c .before .before in
     let z = e .before .before .before .before in
     let o = z .before .before .before .before .before in
-    let s = o .before .before .before .before .before in
-    let d = s .before .before .before .before .before in (
-      appends-then
-          (appends-then (appends-then (appends-then (d .append-decimal .ensures .0) (s .append-field .ensures .0)) (o .append-field2 .ensures .0)) (z .append-field3 .ensures .0))
+    let f = o .before .before .before .before .before in
+    let d = f .before .before .before .before .before in
+    let s = d .before .before .before in
+    let inside : s .args .at ≤ length (s .args .text .now) = omega (arith, s .pre) in (
+      appends-then inside
+          (appends-then inside (appends-then inside (appends-then inside (d .append-decimal .ensures .0) (f .append-field .ensures .0)) (o .append-field2 .ensures .0)) (z .append-field3 .ensures .0))
           (e .end-line .ensures),
       omega arith,
     )

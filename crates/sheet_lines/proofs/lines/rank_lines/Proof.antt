@@ -60,8 +60,8 @@ loop-again c =
     let i = l .loop .inv in (
       omega arith,
       omega (arith, r .rank-line .ensures .1),
-      r .rank-line .ensures .0 .long ∙ i .2,
-      appends-next (lineOf (s .args .t4)) (below d) (below (d + 1)) d (below-snoc d) (i .3) (r .rank-line .ensures .0),
+      r .rank-line .kept .0 ∙ i .2,
+      appends-next (lineOf (s .args .t4)) (below d) (below (d + 1)) d (omega arith) (below-snoc d) (i .3) (r .rank-line .ensures .0),
     )
 
 same-length : tie.Need-same-length Inv-loop μ-loop

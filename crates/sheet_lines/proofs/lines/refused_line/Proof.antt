@@ -1,4 +1,5 @@
 use borrow.Author.Needs.{needs}
+use native.Mathlib.Omega.{arith}
 use Rattle.text.specs.Text.{ascii}
 use Rattle.text.proofs.Appending.{appends-then}
 use Rattle.sheet_lines.proofs.lines.refused_line.Statement.{statement}
@@ -8,8 +9,7 @@ returns : tie.Need-returns
 unfolding ascii
 returns c =
     let e = c .before .before in
-    let done = appends-then (e .before .before .before .before .append-labelled .ensures .0) (e .end-line .ensures) in
-    done
+    appends-then (omega arith) (e .before .before .before .before .append-labelled .ensures .0) (e .end-line .ensures)
 
 pub refused-line-spec : {M : Type 1} → statement M
 refused-line-spec =

@@ -59,8 +59,8 @@ loop-again c =
     (λ w. (
       omega arith,
       omega (arith, w .6, w .2 .ensures .1 .1 (omega arith)),
-      ap length (w .5) ∙ w .2 .ensures .0 .long ∙ i .2,
-      appends-moved (w .5) (w .6) (appends-next field (select t (below q)) _ q (select-yes t q (sym (c .before .names .ensures) ∙ w .0 .taken)) (i .3) (w .2 .ensures .0)),
+      ap length (w .5) ∙ w .2 .kept .0 ∙ i .2,
+      appends-moved (w .5) (w .6) (appends-next field (select t (below q)) _ q (omega arith) (select-yes t q (sym (c .before .names .ensures) ∙ w .0 .taken)) (i .3) (w .2 .ensures .0)),
     ))
     (λ w. (
       omega arith,

@@ -1,5 +1,7 @@
 use borrow.Author.Needs.{needs}
+use Prim.Native.Nat.{_≤_}
 use native.Mathlib.Omega.{arith}
+use lib.ListN.{length}
 use Rattle.text.specs.Text.{ascii}
 use Rattle.text.proofs.Appending.{appends-then}
 use Rattle.sheet_lines.proofs.lines.sum_line.Statement.{statement}
@@ -11,7 +13,9 @@ returns c =
     let e = c .before .before in
     let f = e .before .before .before .before in
     let h = f .before .before .before .before in
-    (appends-then (appends-then (h .append-heading .ensures .0) (f .sum-fields .ensures .0)) (e .end-line .ensures), omega arith)
+    let s = h .before .before .before .before .before .before .before in
+    let inside : s .args .at ≤ length (s .args .text .now) = omega (arith, s .pre) in
+    (appends-then inside (appends-then inside (h .append-heading .ensures .0) (f .sum-fields .ensures .0)) (e .end-line .ensures), omega arith)
 
 pub sum-line-spec : {M : Type 1} → statement M
 sum-line-spec =

@@ -70,9 +70,9 @@ loop-again c =
     (λ w. (
       omega arith,
       omega (arith, w .8, w .4 .ensures .1),
-      ap length (w .7) ∙ w .4 .ensures .0 .long ∙ i .2,
+      ap length (w .7) ∙ w .4 .kept .0 ∙ i .2,
       appends-moved (w .7) (w .8)
-          (appends-next f (outsideTo side set table a) _ a (outside-yes side set table a (eq-eqb _ _ (w .0 .taken)) (ne-eqb _ _ (w .2 .taken))) (i .3) (w .4 .ensures .0)),
+          (appends-next f (outsideTo side set table a) _ a (omega arith) (outside-yes side set table a (eq-eqb _ _ (w .0 .taken)) (ne-eqb _ _ (w .2 .taken))) (i .3) (w .4 .ensures .0)),
     ))
     (⊎-elim
     (λ w. (

@@ -94,9 +94,9 @@ loop-again c =
     (λ w. (
       omega arith,
       omega (arith, w .7, w .3 .ensures .1 .1 (omega (arith, read-small u))),
-      ap length (w .6) ∙ w .3 .ensures .0 .long ∙ v .2,
+      ap length (w .6) ∙ w .3 .kept .0 ∙ v .2,
       appends-moved (w .6) (w .7)
-          (appends-next field (select t (take i graded)) _ (getD graded i 0)
+          (appends-next field (select t (take i graded)) _ (getD graded i 0) (omega arith)
           (select-take-yes t graded i (omega (arith, graded-is-graded .long)) (subst (λ x. t x ≡ true) e (eq-eqb _ _ (w .0 .taken))))
           (v .3) (subst (λ x. Appends (field x) (l .loop .text) (w .3 .last .0) (l .loop .place) (w .3 .result)) e (w .3 .ensures .0))),
     ))

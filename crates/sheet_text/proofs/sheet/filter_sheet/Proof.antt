@@ -2,7 +2,7 @@
 use borrow.Author.Needs.{needs}
 use mathlib.Core.Path.{_≡_, sym, ap, _∙_}
 use mathlib.Core.Option.{some}
-use Prim.Native.Nat.{ℕ, _≤_}
+use Prim.Native.Nat.{ℕ, _≤_, zero-le}
 use native.Mathlib.Omega.{arith}
 use lib.ListN.{length, length-replicate}
 use Rattle.cube.specs.Mask.{points}
@@ -47,7 +47,7 @@ rank-lines-requires : tie.Need-rank-lines-requires
 rank-lines-requires c κs =
     let f = c .before .before .before in
     let s = f .before .before .before .before .before .before .before .before .before .before .before .before .before .before .before .before .before in
-    (omega (arith, f .first-line .ensures .1, f .first-line .ensures .0 .long, s .pre .0), small s)
+    (omega (arith, f .first-line .ensures .1, f .first-line .kept .0, s .pre .0), small s)
 
 report-line-requires : tie.Need-report-line-requires
 report-line-requires c κs =
@@ -55,7 +55,7 @@ report-line-requires c κs =
     let f = r .before .before .before .before in
     let j = f .before .before .before .before .before .before .before .before .before .before in
     let s = j .before .before .before .before .before .before .before in
-    (omega (arith, r .rank-lines .ensures .1, r .rank-lines .ensures .0 .long, f .first-line .ensures .1, f .first-line .ensures .0 .long, s .pre .0), j .judge .kept .1 .1 .1 .1 .0 ∙ length-replicate {A = ℕ} 512 0, j .judge .kept .1 .1 .1 .1 .1 .0 ∙ length-replicate {A = ℕ} 512 0)
+    (omega (arith, r .rank-lines .ensures .1, r .rank-lines .kept .0, f .first-line .ensures .1, f .first-line .kept .0, s .pre .0), j .judge .kept .1 .1 .1 .1 .0 ∙ length-replicate {A = ℕ} 512 0, j .judge .kept .1 .1 .1 .1 .1 .0 ∙ length-replicate {A = ℕ} 512 0)
 
 sum-sections-requires : tie.Need-sum-sections-requires
 sum-sections-requires c κs =
@@ -64,7 +64,7 @@ sum-sections-requires c κs =
     let f = r .before .before .before .before in
     let g = f .before .before .before .before in
     let s = g .before .before .before .before .before .before .before .before .before .before .before .before .before in (
-      omega (arith, d .report-line .ensures .1, d .report-line .ensures .0 .long, r .rank-lines .ensures .1, r .rank-lines .ensures .0 .long, f .first-line .ensures .1, f .first-line .ensures .0 .long, s .pre .0),
+      omega (arith, d .report-line .ensures .1, d .report-line .kept .0, r .rank-lines .ensures .1, r .rank-lines .kept .0, f .first-line .ensures .1, f .first-line .kept .0, s .pre .0),
       filter s .set-long,
       filter s .table-long,
       sums-accepted (s .args .n) (s .args .set .now) (s .args .table .now) (s .pre .1) _ (sym (ap (λ (j : Judgement). j .degree) (judgement g))),
@@ -77,7 +77,7 @@ additions-line-requires c κs =
     let r = d .before .before .before .before .before .before in
     let f = r .before .before .before .before in
     let s = f .before .before .before .before .before .before .before .before .before .before .before .before .before .before .before .before .before in
-    omega (arith, u .sum-sections .ensures .1, u .sum-sections .ensures .0 .long, d .report-line .ensures .1, d .report-line .ensures .0 .long, r .rank-lines .ensures .1, r .rank-lines .ensures .0 .long, f .first-line .ensures .1, f .first-line .ensures .0 .long, s .pre .0)
+    omega (arith, u .sum-sections .ensures .1, u .sum-sections .kept .0, d .report-line .ensures .1, d .report-line .kept .0, r .rank-lines .ensures .1, r .rank-lines .kept .0, f .first-line .ensures .1, f .first-line .kept .0, s .pre .0)
 
 returns : tie.Need-returns
 returns c =
@@ -99,9 +99,11 @@ returns-2 c =
     let s = g .before .before .before .before .before .before .before .before .before .before .before .before .before in
     let first : Appends (firstLine (s .args .n) (length (points (s .args .set .now)))) (s .args .text .now) (f .first-line .last .0) 0 (f .first-line .result) =
     appends-same (ap (firstLine (s .args .n)) (f .before .count .ensures .0)) (f .first-line .ensures .0) in
-    let report = appends-then (d .report-line .ensures .0) (u .sum-sections .ensures .0) in
+    let inside : r .rank-lines .result ≤ length (r .rank-lines .last .0) =
+    omega (arith, r .rank-lines .ensures .1, r .rank-lines .kept .0, f .first-line .ensures .1, f .first-line .kept .0, s .pre .0) in
+    let report = appends-then inside (d .report-line .ensures .0) (u .sum-sections .ensures .0) in
     appends-same (ap (judgementSheet (s .args .n) (s .args .set .now) (s .args .table .now)) (judgement g))
-    (appends-then (appends-then (appends-then first (r .rank-lines .ensures .0)) report) (z .additions-line .ensures .0))
+    (appends-then zero-le (appends-then zero-le (appends-then zero-le first (r .rank-lines .ensures .0)) report) (z .additions-line .ensures .0))
 
 pub filter-sheet-spec : {M : Type 1} → statement M
 filter-sheet-spec =

@@ -1,27 +1,28 @@
 -- A text appended at place 0 is the front of the buffer (front): the refusal's line, or the sheet of the filter that Read found, which Judge accepts.
 use borrow.Author.Needs.{needs}
 use mathlib.Core.Path.{_≡_, sym, ap, _∙_, subst₂}
-use mathlib.Core.List.{List}
-use Prim.Native.Nat.{ℕ, min}
-use native.Mathlib.Nat.{zero-add, min-le-right}
+use mathlib.Core.List.{List, _++_}
+use Prim.Native.Nat.{ℕ, _+_, zero-le}
+use native.Mathlib.Nat.{zero-add}
 use native.Mathlib.Omega.{arith}
-use lib.ListN.{length, take, length-replicate, length-take}
+use lib.ListN.{length, drop, length-replicate, length-append}
 use Rattle.refusal.specs.Refusal.{numberOf}
 use Rattle.refusal.specs.Outcome.{refused}
 use Rattle.io.specs.Counts.{Counts}
 use Rattle.filter_file.specs.Read.{readOutcome}
 use Rattle.text.specs.Text.{Appends}
-use Rattle.sheet_text.specs.Sheet.{sheet}
+use Rattle.text.proofs.Appending.{appends-front}
+use Rattle.sheet_text.specs.Sheet.{sheet, SheetContract}
 use Rattle.sheet_text.proofs.ReadFilter.{ReadAs, filter-judged, filter-sheet, read-filter, read-refused, refused-sheet}
 use Rattle.sheet_text.proofs.sheet.sheet.Statement.{statement}
 use Rattle.sheet_text.proofs.sheet.sheet.Tie as tie
 
 -- a text that is written at the front
-front : (bs t t′ : List ℕ) (r : ℕ) → Appends bs t t′ 0 r → (file : List ℕ) → bs ≡ sheet file → Counts r t′ × (take r t′ ≡ sheet file)
+front : (bs t t′ : List ℕ) (r : ℕ) → Appends bs t t′ 0 r → (file : List ℕ) → bs ≡ sheet file → Counts r t′ × SheetContract file t t′ r
 front bs t t′ r h file e =
-    let long : r ≡ length (take r t′) = h .upto ∙ zero-add (length bs) ∙ sym (ap length (h .text)) in
-    let all : r ≡ min r (length t′) = long ∙ length-take r t′ in
-    ((omega (arith, all, min-le-right r (length t′)), long), h .text ∙ e)
+    let long : r ≡ length bs = h .upto ∙ zero-add (length bs) in
+    let whole : length t′ ≡ length bs + length (drop r t) = ap length (h .text) ∙ length-append bs (drop r t) in
+    ((omega (arith, long, whole), long ∙ sym (ap length (appends-front zero-le h))), record { answers = long ∙ ap length e; leaves = h .text ∙ ap (λ x. x ++ drop r t) e })
 
 -- the filter that is read
 read-found : (c : tie.After-reading2) → let r = c .before .before .before .before in

@@ -27,7 +27,7 @@ side-sums-requires-2 : tie.Need-side-sums-requires-2
 side-sums-requires-2 c κs =
     let o = c .before .before .before in
     let s = o .before .before .before .before .before .before in
-    (omega (arith, s .pre .0, o .side-sums .ensures .1, o .side-sums .ensures .0 .long), s .pre .1, s .pre .2, s .pre .3 (s .args .k - 1) 0 (omega arith) (omega arith))
+    (omega (arith, s .pre .0, o .side-sums .ensures .1, o .side-sums .kept .0), s .pre .1, s .pre .2, s .pre .3 (s .args .k - 1) 0 (omega arith) (omega arith))
 
 returns-2 : tie.Need-returns-2
 returns-2 c =
@@ -35,7 +35,7 @@ returns-2 c =
     let o = z .before .before .before .before in
     let e = o .before .before in
     let a = e .before .before .before .before .args in
-    (appends-same (sums-both (a .n) (a .set .now) (a .table .now) (a .k) (e .if1 .left)) (appends-then (o .side-sums .ensures .0) (z .side-sums2 .ensures .0)), omega arith)
+    (appends-same (sums-both (a .n) (a .set .now) (a .table .now) (a .k) (e .if1 .left)) (appends-then (omega arith) (o .side-sums .ensures .0) (z .side-sums2 .ensures .0)), omega arith)
 
 pub sum-sections-spec : {M : Type 1} → statement M
 sum-sections-spec =
