@@ -13,6 +13,9 @@ ghost use Rattle.text.specs.Text.{fields, Appends};
 ghost use Rattle.sheet_lines.specs.Room.{chosenRoom, refusedLineRoom, firstLineRoom, rankLineRoom, rankLinesRoom, degreeLineRoom, sumLineRoom, sideSumsRoom, additionsLineRoom};
 ghost use Rattle.sheet_lines.specs.Lines.{refusedLine, firstLine, rankLine, rankLines, degreeLine, sumLine, sumLines, additionsLine};
 use cube::POINTS;
+use cube::Point;
+use gf2::ROW_WORDS;
+use gf2::WORD_BITS;
 use immunity::Ranks;
 use order::exponent_at;
 use order::graded_order;
@@ -104,23 +107,25 @@ pub fn degree_line(text: &mut [u8], at: usize, k: usize, side: u8, witness: &[u8
     end_line(text, end)
 }
 
-// Bit `q` of the row of the point `a` in a certificate.
-fn names(certificate: &[u64], a: usize, q: usize) -> bool
-    requires { ⌜ (length (now certificate) ≡ 4096) × (a < 512) × (q < 512) ⌝ }
-    ensures { λ r. ⌜ r ≡ bitOf (now (certificate .entry)) a q ⌝ }
+// Whether a certificate names the point `q` for the point `a`: bit `q` of the row of `a`.
+fn names(certificate: &[u64], a: Point, q: Point) -> bool
+    requires { ⌜ (length (now certificate) ≡ 4096) × (a .0 < 512) × (q .0 < 512) ⌝ }
+    ensures { λ r. ⌜ r ≡ bitOf (now (certificate .entry)) (a .0) (q .0) ⌝ }
 {
-    (certificate[8 * a + q / 64] >> (q % 64)) % 2 == 1
+    let row = a.0 as usize;
+    let bit = q.0 as usize;
+    (certificate[ROW_WORDS * row + bit / WORD_BITS] >> (bit % WORD_BITS)) % 2 == 1
 }
 
 // The points that a certificate names for the point `a`, rising.
-fn sum_fields(text: &mut [u8], at: usize, certificate: &[u64], a: usize) -> usize
-    requires { ⌜ (at + chosenRoom + fieldRoom ≤ length (now text)) × (length (now certificate) ≡ 4096) × (a < 512) ⌝ }
-    ensures { λ r. ⌜ Appends (fields (select (bitOf (now (certificate .entry)) a) (below 512))) (now (text .entry)) (now (text .exit)) at r × (r ≤ at + chosenRoom) ⌝ }
+fn sum_fields(text: &mut [u8], at: usize, certificate: &[u64], a: Point) -> usize
+    requires { ⌜ (at + chosenRoom + fieldRoom ≤ length (now text)) × (length (now certificate) ≡ 4096) × (a .0 < 512) ⌝ }
+    ensures { λ r. ⌜ Appends (fields (select (bitOf (now (certificate .entry)) (a .0)) (below 512))) (now (text .entry)) (now (text .exit)) at r × (r ≤ at + chosenRoom) ⌝ }
 {
     let mut place = at;
     let mut q: usize = 0;
     while q < POINTS {
-        if names(certificate, a, q) {
+        if names(certificate, a, Point(q as u16)) {
             place = append_field(text, place, q as u64);
         }
         q += 1;
@@ -129,11 +134,19 @@ fn sum_fields(text: &mut [u8], at: usize, certificate: &[u64], a: usize) -> usiz
 }
 
 // The sum of the point `a`.
-fn sum_line(text: &mut [u8], at: usize, side: u8, certificate: &[u64], a: usize) -> usize
-    requires { ⌜ (at + sumLineRoom + fieldRoom ≤ length (now text)) × (length (now certificate) ≡ 4096) × (a < 512) ⌝ }
-    ensures { λ r. ⌜ Appends (sumLine side a (select (bitOf (now (certificate .entry)) a) (below 512))) (now (text .entry)) (now (text .exit)) at r × (r ≤ at + sumLineRoom) ⌝ }
+fn sum_line(text: &mut [u8], at: usize, side: u8, certificate: &[u64], a: Point) -> usize
+    requires { ⌜ (at + sumLineRoom + fieldRoom ≤ length (now text)) × (length (now certificate) ≡ 4096) × (a .0 < 512) ⌝ }
+    ensures { λ r. ⌜ Appends (sumLine side (a .0) (select (bitOf (now (certificate .entry)) (a .0)) (below 512))) (now (text .entry)) (now (text .exit)) at r × (r ≤ at + sumLineRoom) ⌝ }
 {
-    let named = append_heading(text, at, b"side", side as u64, b" point", a as u64, b" sum");
+    let named = append_heading(
+        text,
+        at,
+        b"side",
+        side as u64,
+        b" point",
+        a.0 as u64,
+        b" sum",
+    );
     let end = sum_fields(text, named, certificate, a);
     end_line(text, end)
 }
@@ -155,7 +168,7 @@ pub fn sum_lines(
     while a < POINTS {
         if set[a] == 1 {
             if table[a] != side {
-                place = sum_line(text, place, side, certificate, a);
+                place = sum_line(text, place, side, certificate, Point(a as u16));
             }
         }
         a += 1;

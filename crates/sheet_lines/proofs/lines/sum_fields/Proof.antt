@@ -25,7 +25,7 @@ Written certificate a q text₀ at text place = Appends (fields (select (bitOf c
 
 abbrev Inv-loop : tie.InvT-loop
 Inv-loop text₀ at certificate a place₀ q₀ text place q =
-    (q ≤ 512) × (place ≤ at + smallFieldRoom * q) × (length text ≡ length text₀) × Written certificate a q text₀ at text place
+    (q ≤ 512) × (place ≤ at + smallFieldRoom * q) × (length text ≡ length text₀) × Written certificate (a .0) q text₀ at text place
 
 abbrev μ-loop : tie.MeasureT-loop
 μ-loop text₀ at certificate a place₀ q₀ text place q = 512 - q
@@ -54,7 +54,7 @@ loop-again c =
     let s = l .before .before .before in
     let q = l .loop .q in
     let i = l .loop .inv in
-    let t = bitOf (s .args .certificate .now) (s .args .a) in
+    let t = bitOf (s .args .certificate .now) (s .args .a .0) in
     ⊎-elim
     (λ w. (
       omega arith,
@@ -78,7 +78,7 @@ returns c =
     let l = c .before in
     let s = l .before .before .before in
     let e : l .loop .q ≡ 512 = omega arith in
-    (subst (λ q. Written (s .args .certificate .now) (s .args .a) q (s .args .text .now) (s .args .at) (l .loop .text) (l .loop .place)) e (l .loop .inv .3), omega arith)
+    (subst (λ q. Written (s .args .certificate .now) (s .args .a .0) q (s .args .text .now) (s .args .at) (l .loop .text) (l .loop .place)) e (l .loop .inv .3), omega arith)
 
 pub sum-fields-spec : {M : Type 1} → statement M
 sum-fields-spec =
@@ -87,6 +87,7 @@ sum-fields-spec =
     Inv-loop
     μ-loop
     loop-holds
+    (λ c. omega arith)
     names-requires
     append-field-requires
     add-q

@@ -13,7 +13,7 @@ returns c =
     let e = c .before .before in
     let f = e .before .before .before .before in
     let h = f .before .before .before .before in
-    let s = h .before .before .before .before .before .before .before in
+    let s = h .before .before .before .before .before .before .before .before in
     let inside : s .args .at ≤ length (s .args .text .now) = omega (arith, s .pre) in
     (appends-then inside (appends-then inside (h .append-heading .ensures .0) (f .sum-fields .ensures .0)) (e .end-line .ensures), omega arith)
 
@@ -21,6 +21,7 @@ pub sum-line-spec : {M : Type 1} → statement M
 sum-line-spec =
     tie.close
     (tie.spec
+    (λ c. search needs)
     (λ c. search needs)
     (λ c. search needs)
     (λ c. search needs)

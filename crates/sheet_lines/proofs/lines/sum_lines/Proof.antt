@@ -108,6 +108,7 @@ sum-lines-spec =
     loop-holds
     shared-slice-read-if1
     shared-slice-read-if2
+    (λ c. omega arith)
     sum-line-requires
     add-a
     loop-less
