@@ -21,13 +21,13 @@ returns c =
 side-sums-requires : tie.Need-side-sums-requires
 side-sums-requires c κs =
     let s = c .before .before .before .before .before in
-    (omega (arith, s .pre .0), s .pre .1, s .pre .2, s .pre .3 (s .args .k - 1) 1 (omega arith) (omega arith))
+    (omega (arith, s .pre .0), s .pre .1, s .pre .2, s .pre .3 (s .args .k - 1) _ (omega arith) (omega arith))
 
 side-sums-requires-2 : tie.Need-side-sums-requires-2
 side-sums-requires-2 c κs =
     let o = c .before .before .before in
     let s = o .before .before .before .before .before .before in
-    (omega (arith, s .pre .0, o .side-sums .ensures .1, o .side-sums .kept .0), s .pre .1, s .pre .2, s .pre .3 (s .args .k - 1) 0 (omega arith) (omega arith))
+    (omega (arith, s .pre .0, o .side-sums .ensures .1, o .side-sums .kept .0), s .pre .1, s .pre .2, s .pre .3 (s .args .k - 1) _ (omega arith) (omega arith))
 
 returns-2 : tie.Need-returns-2
 returns-2 c =
