@@ -1,4 +1,4 @@
-// The lines of the sheet.
+// The lines of the sheet. They are `pub` for sheet_text alone.
 ghost use mathlib.Core.Path.{_≡_};
 ghost use Prim.Native.Nat.{_+_, _≤_, _<_};
 ghost use lib.ListN.{length};

@@ -1,5 +1,5 @@
-// Text in a lent buffer: bytes, numbers and fields are written behind what stands there already.
-// The result of each function is the place behind what it wrote.
+// Text in a lent buffer: bytes, numbers and fields are written from a place on, and all other bytes stay. The result of
+// each function is the place behind what it wrote. The functions are `pub` for the crates of the sheet alone.
 ghost use mathlib.Core.List.{_++_};
 ghost use Prim.Native.Nat.{_+_, _*_, _≤_, _<_};
 ghost use lib.ListN.{length};

@@ -1,3 +1,4 @@
+-- The kit's digits are the decimal ones (decimal-fewest), and no more than the room holds (decimal-short); they are appended.
 use borrow.Author.Needs.{needs}
 use mathlib.Core.Path.{_≡_, ap, _∙_}
 use Prim.Native.Nat.{_≤_}

@@ -1,3 +1,4 @@
+-- Nothing is written where k is 0 (appends-none); else the sums of side 0 stand behind those of side 1 (appends-then, sums-both), each within its room.
 use borrow.Author.Needs.{needs}
 use mathlib.Core.Path.{_≡_, refl, sym, ap}
 use mathlib.Core.List.{List, _++_}
