@@ -20,9 +20,12 @@ use Rattle.gf2.specs.Packed.{rowOf, zeroRow, cut, padded, number}
 use Rattle.gf2.proofs.Each.{member-each, map-each}
 use Rattle.gf2.proofs.Packing.{number-padded}
 use Rattle.gf2.proofs.Padded.{zero-row, total-padded, reduce-padded, kept-fits}
-use Rattle.matrix.specs.Matrix.{row, eliminated, rankOf}
-use Rattle.matrix.specs.Workspace.{exponents, RowsFrom, stored}
-use Rattle.matrix.proofs.Stored.{short-row, stored-row, stored-elimination}
+use Rattle.point_rows.specs.Rows.{row}
+use Rattle.point_rows.specs.Workspace.{exponents, RowsFrom, stored}
+use Rattle.point_rows.proofs.PointRow.{short-row}
+use Rattle.point_rows.proofs.Stored.{stored-row}
+use Rattle.matrix.specs.Matrix.{eliminated, rankOf}
+use Rattle.matrix.proofs.Stored.{stored-elimination}
 use Rattle.filter.specs.Part.{part}
 use Rattle.immunity.specs.Certificate.{sumOf, rowIf, sumIf, numberAt, certificate}
 use Rattle.matrix.specs.Combination.{Combines}

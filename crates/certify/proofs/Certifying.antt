@@ -32,10 +32,12 @@ use Rattle.filter.specs.Filter.{Filter}
 use Rattle.filter.specs.Part.{part}
 use Rattle.filter.proofs.Filters.{few-taps}
 use Rattle.filter.proofs.PartPoints.{part-inside}
+use Rattle.point_rows.specs.Workspace.{exponents, filled, RowsFrom}
+use Rattle.point_rows.proofs.Stored.{filled-rows, stays-rows}
 use Rattle.matrix.specs.Matrix.{rankOf}
-use Rattle.matrix.specs.Workspace.{exponents, filled, RowsFrom, Eliminates}
+use Rattle.matrix.specs.Workspace.{Eliminates}
 use Rattle.matrix.specs.Combination.{Combines}
-use Rattle.matrix.proofs.Stored.{filled-rows, stays-rows, kept-count}
+use Rattle.matrix.proofs.Stored.{kept-count}
 use Rattle.immunity.specs.Judgement.{differs}
 use Rattle.immunity.specs.Certificate.{certificate}
 use Rattle.certify.specs.declared.CertifyAnswer.{CertifyAnswer}

@@ -12,7 +12,7 @@ use lib.ListN.{length, take}
 use Rattle.gf2.specs.Vector.{Row, add, total, chosen}
 use Rattle.gf2.specs.Elimination.{Reduced, reduce}
 use Rattle.gf2.specs.Packed.{rowOf, cut, zeroRow, Places}
-use Rattle.matrix.specs.Workspace.{stored}
+use Rattle.point_rows.specs.Workspace.{stored}
 use Rattle.matrix.specs.Combination.{followed}
 use Rattle.cube.specs.Mask.{points}
 use Rattle.filter.specs.Outside.{isOutside}

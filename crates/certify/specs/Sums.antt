@@ -13,7 +13,7 @@ use Rattle.cube.specs.Mask.{points}
 use Rattle.gf2.specs.Vector.{Row, add, total, chosen}
 use Rattle.gf2.specs.Elimination.{reduce}
 use Rattle.gf2.specs.Packed.{rowOf, zeroRow}
-use Rattle.matrix.specs.Workspace.{stored}
+use Rattle.point_rows.specs.Workspace.{stored}
 use Rattle.immunity.specs.Certificate.{rowIf, numberAt}
 use Rattle.filter.specs.Outside.{isOutside}
 

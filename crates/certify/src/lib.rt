@@ -21,9 +21,9 @@ use gf2::WORKSPACE;
 use gf2::packed::clear;
 use matrix::combination::eliminate_combining;
 use matrix::elimination::eliminate;
-use matrix::rows::fill_rows;
 use order::columns::column_count;
 use order::graded_order;
+use point_rows::fill_rows;
 use refusal::Refusal;
 use refusal::verdict::Verdict;
 

@@ -12,8 +12,8 @@ use cube::POINTS;
 use filter::part::is_outside;
 use gf2::ROW_WORDS;
 use gf2::basis::reduce_both;
-use matrix::FIRST_POINT;
 use matrix::combination::move_row;
+use point_rows::FIRST_POINT;
 
 // The sum of the combinations of the rows that are added to the row of the point `a` is put in its place.
 fn combine_point(

@@ -22,7 +22,7 @@ use Rattle.gf2.specs.Prefix.{AtMost}
 use Rattle.gf2.proofs.Each.{member-each, map-each}
 use Rattle.gf2.proofs.Padded.{widened}
 use Rattle.matrix.specs.Matrix.{eliminated, rankOf}
-use Rattle.matrix.specs.Workspace.{stored}
+use Rattle.point_rows.specs.Workspace.{stored}
 use Rattle.matrix.proofs.Stored.{stored-elimination}
 use Rattle.filter.specs.Sides.{pair}
 use Rattle.immunity.specs.declared.Ranks.{Ranks}

@@ -5,8 +5,8 @@ use mathlib.Core.List.{List}
 use Prim.Native.Nat.{ℕ}
 use lib.ListN.{length, drop}
 use Rattle.gf2.specs.Packed.{unpacked}
-use Rattle.matrix.specs.Workspace.{exponents}
-use Rattle.matrix.proofs.Stored.{stays-rows}
+use Rattle.point_rows.specs.Workspace.{exponents}
+use Rattle.point_rows.proofs.Stored.{stays-rows}
 use Rattle.degree_ranks.specs.Ready.{Ready}
 
 -- what leaves the rows of points in their places leaves it ready

@@ -14,7 +14,7 @@ use Rattle.cube.specs.NumberLists.{below}
 use Rattle.order.specs.Order.{columns}
 use Rattle.gf2.specs.Vector.{Row}
 use Rattle.gf2.specs.Elimination.{eliminate}
-use Rattle.matrix.specs.Workspace.{stored}
+use Rattle.point_rows.specs.Workspace.{stored}
 
 -- the number, or 0
 unfoldable pub numberIf : Bool → ℕ → ℕ

@@ -10,7 +10,7 @@ use Rattle.cube.specs.Cube.{size}
 use Rattle.cube.specs.Mask.{points}
 use Rattle.order.specs.Order.{Graded}
 use Rattle.gf2.specs.Packed.{unpacked}
-use Rattle.matrix.specs.Workspace.{exponents, RowsFrom}
+use Rattle.point_rows.specs.Workspace.{exponents, RowsFrom}
 
 -- the row of each point of n taps is in its place, with its columns in a graded order
 pub record Ready (o : List ℕ) (n : ℕ) (ws : List ℕ) : Type 0 where

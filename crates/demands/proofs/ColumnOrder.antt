@@ -21,7 +21,7 @@ use Rattle.order.proofs.BuiltIn.{order-key, graded-rises, graded-is-graded}
 use Rattle.order.proofs.DegreeColumns.{member-columns}
 use Rattle.gf2.specs.Vector.{entry, Each}
 use Rattle.gf2.proofs.Each.{each-member, member-each}
-use Rattle.matrix.specs.Matrix.{row}
+use Rattle.point_rows.specs.Rows.{row}
 use Rattle.demands.specs.JudgementWords.{Precedes}
 
 -- each exponent has a lower key than all later ones

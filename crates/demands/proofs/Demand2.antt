@@ -21,7 +21,8 @@ use Rattle.polynomial.specs.Convert.{converted, convertChecks, convertOutcome, 
 use Rattle.polynomial.proofs.Value.{value-same, value-twice}
 use Rattle.polynomial.proofs.Converted.{convert-fits}
 use Rattle.polynomial.proofs.NormalForm.{length-converted, converted-at, converted-formed, converted-twice}
-use Rattle.matrix.specs.Matrix.{row, rows, eliminated, rankOf}
+use Rattle.point_rows.specs.Rows.{row, rows}
+use Rattle.matrix.specs.Matrix.{eliminated, rankOf}
 use Rattle.matrix.specs.declared.rank.Ranked.{Ranked}
 use Rattle.matrix.proofs.RankOf.{rank-of, rank-accepted, additions-accepted}
 use Rattle.filter.specs.Sides.{ofSide}

@@ -24,7 +24,8 @@ use Rattle.gf2.proofs.Reducing.{is-zero}
 use Rattle.gf2.proofs.Eliminate.{taken}
 use Rattle.gf2.proofs.Kept.{eliminate-snoc, kept-echelon, points-chosen, point-kept}
 use Rattle.gf2.proofs.Columns.{zero-before-pivot}
-use Rattle.matrix.specs.Matrix.{row, eliminated}
+use Rattle.point_rows.specs.Rows.{row}
+use Rattle.matrix.specs.Matrix.{eliminated}
 use Rattle.demands.specs.JudgementWords.{Meets, Step, smaller, KeptPoint}
 
 -- nothing is kept before the first point

@@ -27,7 +27,8 @@ use Rattle.gf2.specs.Vector.{Row, chosen, SumOf}
 use Rattle.gf2.specs.Packed.{zeros}
 use Rattle.gf2.proofs.Bits.{not-one}
 use Rattle.gf2.proofs.Each.{each-member, chosen-among}
-use Rattle.matrix.specs.Matrix.{row, rows, eliminated, choice}
+use Rattle.point_rows.specs.Rows.{row, rows}
+use Rattle.matrix.specs.Matrix.{eliminated, choice}
 use Rattle.filter.specs.Sides.{ofSide}
 use Rattle.filter.specs.Filter.{Filter}
 use Rattle.filter.specs.Part.{part}

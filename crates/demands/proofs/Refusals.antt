@@ -26,7 +26,8 @@ use Rattle.cube.proofs.Masks.{byte-small, byte-zero, bytes-formed}
 use Rattle.order.specs.BuiltIn.{graded}
 use Rattle.gf2.specs.Rank.{Rank}
 use Rattle.gf2.proofs.Rank.{rank-unique}
-use Rattle.matrix.specs.Matrix.{rows, rankOf}
+use Rattle.point_rows.specs.Rows.{rows}
+use Rattle.matrix.specs.Matrix.{rankOf}
 use Rattle.matrix.specs.Rank.{ranked, rankChecks, rankOutcome}
 use Rattle.matrix.proofs.RankOf.{rank-of}
 use Rattle.filter.specs.Part.{part}

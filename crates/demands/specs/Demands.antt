@@ -23,7 +23,8 @@ use Rattle.polynomial.specs.Convert.{convertOutcome, convertLeaves, ConvertCont
 use Rattle.gf2.specs.Rank.{Rank}
 use Rattle.gf2.specs.Packed.{zeros}
 use Rattle.matrix.specs.declared.rank.Ranked.{Ranked}
-use Rattle.matrix.specs.Matrix.{rows, eliminated}
+use Rattle.point_rows.specs.Rows.{rows}
+use Rattle.matrix.specs.Matrix.{eliminated}
 use Rattle.matrix.specs.declared.rank.RankAnswer.{RankAnswer}
 use Rattle.matrix.specs.Rank.{rankOutcome, RankContract}
 use Rattle.filter_file.specs.declared.read.ReadAnswer.{ReadAnswer}

@@ -40,7 +40,8 @@ use Rattle.gf2.specs.Rank.{Rank}
 use Rattle.gf2.specs.Elimination.{Elimination}
 use Rattle.gf2.specs.Points.{Rising}
 use Rattle.gf2.specs.Packed.{zeros}
-use Rattle.matrix.specs.Matrix.{row, rows, eliminated}
+use Rattle.point_rows.specs.Rows.{row, rows}
+use Rattle.matrix.specs.Matrix.{eliminated}
 use Rattle.matrix.specs.declared.rank.Ranked.{Ranked}
 use Rattle.matrix.specs.Rank.{rankOutcome}
 use Rattle.filter.specs.Sides.{Sides, ofSide}

@@ -22,7 +22,8 @@ use Rattle.gf2.proofs.Kept.{sum-reduced, points-independent}
 use Rattle.gf2.proofs.Points.{expresses-unique}
 use Rattle.gf2.proofs.Combinations.{expressed}
 use Rattle.gf2.proofs.Among.{expresses-alike, expresses-kept}
-use Rattle.matrix.specs.Matrix.{row, rows, eliminated}
+use Rattle.point_rows.specs.Rows.{row, rows}
+use Rattle.matrix.specs.Matrix.{eliminated}
 use Rattle.filter.specs.Part.{part}
 use Rattle.immunity.specs.Certificate.{named, Certifies, IsCertificate, sumOf, rowIf, sumIf, certificate}
 use Rattle.immunity.specs.Judgement.{EqualRanks}

@@ -14,7 +14,8 @@ use Rattle.gf2.proofs.Each.{each-map, each-member, member-each, each-of-map}
 use Rattle.gf2.proofs.Duality.{orthogonal-sum, separate}
 use Rattle.gf2.proofs.Kept.{equal-kept}
 use Rattle.polynomial.specs.Polynomial.{Polynomial, value, UpTo}
-use Rattle.matrix.specs.Matrix.{row, rows, eliminated, rankOf, choice}
+use Rattle.point_rows.specs.Rows.{row, rows}
+use Rattle.matrix.specs.Matrix.{eliminated, rankOf, choice}
 use Rattle.matrix.proofs.Product.{value-dot, choice-up-to, choice-value}
 use Rattle.immunity.specs.Annihilator.{Annihilator}
 

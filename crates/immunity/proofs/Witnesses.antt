@@ -28,7 +28,8 @@ use Rattle.gf2.proofs.Sums.{sum-zero}
 use Rattle.gf2.proofs.Witness.{witness-separates, witness-columns, witness-unique}
 use Rattle.polynomial.specs.Polynomial.{Polynomial, value}
 use Rattle.polynomial.proofs.Value.{value-same}
-use Rattle.matrix.specs.Matrix.{row, rows, rankOf, choice}
+use Rattle.point_rows.specs.Rows.{row, rows}
+use Rattle.matrix.specs.Matrix.{rankOf, choice}
 use Rattle.matrix.proofs.Product.{value-dot, choice-up-to, choice-value, choice-at}
 use Rattle.immunity.specs.Witness.{NewPoint, OnNewColumns, IsWitness, witnessRow, witnessAt}
 use Rattle.immunity.specs.Annihilator.{Annihilator}

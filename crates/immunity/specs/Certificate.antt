@@ -22,7 +22,8 @@ use Rattle.gf2.specs.Vector.{Row, Zero, chosen, total}
 use Rattle.gf2.specs.Elimination.{reduce}
 use Rattle.gf2.specs.Points.{Expresses}
 use Rattle.gf2.specs.Packed.{number}
-use Rattle.matrix.specs.Matrix.{row, eliminated}
+use Rattle.point_rows.specs.Rows.{row}
+use Rattle.matrix.specs.Matrix.{eliminated}
 use Rattle.filter.specs.Part.{part}
 use Rattle.filter.specs.Outside.{Outside, isOutside}
 

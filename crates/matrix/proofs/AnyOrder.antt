@@ -20,7 +20,7 @@ use Rattle.gf2.proofs.Bits.{xor-self}
 use Rattle.gf2.proofs.Dot.{entry-add}
 use Rattle.gf2.proofs.Rank.{rank-alike}
 use Rattle.polynomial.proofs.Sums.{sumOver}
-use Rattle.matrix.specs.Matrix.{monomials, row, rows}
+use Rattle.point_rows.specs.Rows.{monomials, row, rows}
 
 -- a monomial's entry at a point
 entry-monomials : (us : List ℕ) (a c : ℕ) → c < length us → entry (monomials us a) c ≡ within (getD us c 0) a

@@ -25,7 +25,7 @@ use Rattle.gf2.proofs.Chosen.{chosen-few}
 use Rattle.gf2.proofs.Kept.{points-chosen, eliminate-snoc}
 use Rattle.gf2.proofs.Padded.{total-padded}
 use Rattle.gf2.proofs.Steps.{kept-more, keep-map}
-use Rattle.matrix.specs.Workspace.{stored}
+use Rattle.point_rows.specs.Workspace.{stored}
 use Rattle.matrix.proofs.Taking.{pointsTo}
 use Rattle.matrix.specs.Combination.{followed, Combines}
 use Rattle.matrix.proofs.Following.{followed-left, followed-sum, followed-other, followed-places, followed-kept}

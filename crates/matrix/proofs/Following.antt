@@ -22,7 +22,7 @@ use Rattle.gf2.specs.Packed.{rowOf, zeroRow, padded, Places, oneMoreUnless}
 use Rattle.gf2.proofs.Padded.{unit-padded}
 use Rattle.gf2.proofs.Steps.{kept-more}
 use Rattle.gf2.proofs.BothRows.{both-left, both-sum, both-front, both-other, places-rows}
-use Rattle.matrix.specs.Workspace.{stored}
+use Rattle.point_rows.specs.Workspace.{stored}
 use Rattle.matrix.specs.Combination.{followed}
 
 -- a number or the next is at most the next

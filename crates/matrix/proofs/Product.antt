@@ -3,26 +3,25 @@
 --   choice-up-to   a choice of columns is a polynomial up to the degree
 --   choice-value   its value at a point is the parity of the choice with the point's row
 --   choice-at      it chooses the exponent of a column just if the row has a one there
---   row-prefix     the row of a point at a degree is the front of its row at a higher degree
-use mathlib.Core.Path.{_≡_, refl, sym, ap, _∙_}
+use mathlib.Core.Path.{_≡_, refl, sym}
 use mathlib.Core.Bool.{Bool, true, false, _&&_, and-false}
 use mathlib.Core.List.{List, [], _∷_, map, List·Memᴰ}
 use Prim.Native.Nat.{ℕ, zero, suc, _≤_, _<_}
 use native.Mathlib.Omega.{arith}
-use lib.ListN.{length, getD, take}
+use lib.ListN.{length, getD}
 use borrow.Author.Tests.{eq-eqb, ne-eqb}
 use Rattle.cube.specs.NumberLists.{lists}
 use Rattle.cube.specs.Cube.{size, within}
 use Rattle.order.specs.Order.{Graded, columns}
 use Rattle.cube.proofs.Listed.{Distinct, lists-member, not-listed, place-member}
-use Rattle.order.proofs.DegreeColumns.{member-columns, columns-distinct, columns-prefix}
+use Rattle.order.proofs.DegreeColumns.{member-columns, columns-distinct}
 use Rattle.gf2.specs.Vector.{Row, Choice, entry, dot, chosen}
 use Rattle.gf2.proofs.Bits.{false-xor}
 use Rattle.gf2.proofs.Each.{each-member, chosen-among}
 use Rattle.polynomial.specs.Polynomial.{Polynomial, value, UpTo}
 use Rattle.polynomial.proofs.Sums.{sumOver, sum-same, sum-listed}
-use Rattle.matrix.specs.Matrix.{monomials, row, choice}
-use Rattle.matrix.proofs.Maps.{map-take}
+use Rattle.point_rows.specs.Rows.{row}
+use Rattle.matrix.specs.Matrix.{choice}
 
 -- the parity of two rows of tests is the sum of their product
 dot-map : (p r : ℕ → Bool) (cs : List ℕ) → dot (map p cs) (map r cs) ≡ sumOver cs (λ u. p u && r u)
@@ -94,8 +93,3 @@ module _ {o : List ℕ} (g : Graded o) {n : ℕ} (small : n ≤ 9) (d : ℕ) whe
   pub choice-at : (x : Row) (c : ℕ) → c < length (columns o n d) → choice o n d x (getD (columns o n d) c 0) ≡ entry x c
   unfolding choice
   choice-at x c l = chosen-at x (columns o n d) (columns-distinct g n d) c l
-
--- the row of a point at a degree is the front of its row at a higher degree
-pub row-prefix : {o : List ℕ} → Graded o → (n d e a : ℕ) → d ≤ e → row o n d a ≡ take (length (columns o n d)) (row o n e a)
-row-prefix {o} g n d e a l =
-    ap (λ us. monomials us a) (columns-prefix g n d e l) ∙ map-take (λ u. within u a) (length (columns o n d)) (columns o n e)

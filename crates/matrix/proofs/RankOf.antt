@@ -14,7 +14,8 @@ use Rattle.cube.specs.Mask.{points}
 use Rattle.order.specs.Order.{Graded}
 use Rattle.gf2.specs.Rank.{Rank}
 use Rattle.gf2.proofs.Kept.{keeps-rank, additions-bound, additions-most}
-use Rattle.matrix.specs.Matrix.{row, rows, eliminated, rankOf}
+use Rattle.point_rows.specs.Rows.{row, rows}
+use Rattle.matrix.specs.Matrix.{eliminated, rankOf}
 use Rattle.matrix.specs.Rank.{ranked, rankChecks, rankOutcome}
 use Rattle.matrix.specs.declared.rank.Ranked.{Ranked}
 use Rattle.matrix.proofs.AnyOrder.{rank-ordered}

@@ -24,11 +24,13 @@ use Rattle.order.specs.Order.{Graded, columns}
 use Rattle.cube.proofs.Masks.{points-inside}
 use Rattle.gf2.specs.Vector.{Row}
 use Rattle.gf2.specs.Packed.{zeros}
-use Rattle.matrix.specs.Workspace.{exponents, filled, RowsFrom, Eliminates}
+use Rattle.point_rows.specs.Workspace.{exponents, filled, RowsFrom}
+use Rattle.point_rows.proofs.Stored.{filled-rows}
+use Rattle.matrix.specs.Workspace.{Eliminates}
 use Rattle.matrix.specs.Rank.{ranked, rankChecks, rankOutcome, RankContract}
 use Rattle.matrix.specs.declared.rank.Ranked.{Ranked}
 use Rattle.matrix.specs.declared.rank.RankAnswer.the-variants.{Refused, Accepted}
-use Rattle.matrix.proofs.Stored.{filled-rows, kept-count, made-additions}
+use Rattle.matrix.proofs.Stored.{kept-count, made-additions}
 
 -- elimination in the workspace finds the rank and the additions of the definition
 pub ranked-is : {o : List ℕ} → Graded o → (b : List ℕ) (n d : ℕ) (t t′ : List Row) (k m : ℕ) → n ≤ 9 → d ≤ n → wellFormed n b ≡ true

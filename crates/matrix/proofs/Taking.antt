@@ -19,7 +19,8 @@ use Rattle.gf2.specs.Elimination.{isZero, count, Reduced, reduce, keepUnless, E
 use Rattle.gf2.specs.Packed.{rowOf, cut, Reduces, oneMoreUnless}
 use Rattle.gf2.proofs.Kept.{eliminate-snoc}
 use Rattle.gf2.proofs.Steps.{kept-more}
-use Rattle.matrix.specs.Workspace.{stored, Takes, Eliminates}
+use Rattle.point_rows.specs.Workspace.{stored}
+use Rattle.matrix.specs.Workspace.{Takes, Eliminates}
 
 -- a row copied behind the kept rows, reduced, and kept or not, is taken as the definition says
 pub takes : (t₀ t₁ t₂ : List Row) (k k′ n : ℕ) (v : Row) → k < length t₀ → k < 512 → t₁ ≡ set t₀ k v → Reduces k k t₁ t₂ n

@@ -24,7 +24,8 @@ use Rattle.gf2.proofs.Reducing.{reduce-few}
 use Rattle.gf2.proofs.Kept.{eliminate-snoc}
 use Rattle.gf2.proofs.Prefix.{kept-cut, left-cut, length-kept, pivots-taken}
 use Rattle.gf2.proofs.Tally.{sum-zeros, tallies-reduces}
-use Rattle.matrix.specs.Workspace.{stored, Takes, TakesAll, EliminatesAll}
+use Rattle.point_rows.specs.Workspace.{stored}
+use Rattle.matrix.specs.Workspace.{Takes, TakesAll, EliminatesAll}
 use Rattle.matrix.proofs.Taking.{takes, pointsTo}
 
 -- a row copied behind the kept rows, reduced with a tally, and kept or not

@@ -11,7 +11,7 @@ use Rattle.cube.specs.Mask.{member}
 use Rattle.gf2.specs.Vector.{Row}
 use Rattle.gf2.specs.Elimination.{eliminate}
 use Rattle.gf2.specs.Packed.{rowOf, padded, Places, reducedBoth}
-use Rattle.matrix.specs.Workspace.{stored}
+use Rattle.point_rows.specs.Workspace.{stored}
 
 -- c columns of the row of the point a are reduced by the first k rows, and its place, with the row x there, follows
 unfoldable pub followed : ℕ → ℕ → ℕ → Row → List ℕ → List Row → List Row

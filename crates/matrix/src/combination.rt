@@ -7,15 +7,15 @@ ghost use Rattle.cube.specs.Mask.{points};
 ghost use Rattle.gf2.specs.Vector.{unit};
 ghost use Rattle.gf2.specs.Elimination.{isZero};
 ghost use Rattle.gf2.specs.Packed.{unpacked, rowOf, zeroRow, padded, Pivots, Places, oneMoreUnless};
-ghost use Rattle.matrix.specs.Workspace.{stored};
+ghost use Rattle.point_rows.specs.Workspace.{stored};
 ghost use Rattle.matrix.specs.Combination.{followed, Combines, OutsidePlaces};
-use crate::FIRST_POINT;
 use cube::POINTS;
 use gf2::basis::keep;
 use gf2::basis::reduce_both;
 use gf2::packed::clear_row;
 use gf2::packed::copy_columns;
 use gf2::packed::set_entry;
+use point_rows::FIRST_POINT;
 
 // The first `columns` columns of the row of the point `a` are put behind the `kept` rows, and its place is cleared.
 pub fn move_row(ws: &mut [u64], kept: usize, a: usize, columns: usize)

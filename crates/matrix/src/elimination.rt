@@ -5,12 +5,12 @@ ghost use lib.ListN.{length};
 ghost use Rattle.cube.specs.Mask.{points};
 ghost use Rattle.gf2.specs.Packed.{unpacked, rowOf, cut, Pivots};
 ghost use Rattle.matrix.specs.Workspace.{Takes, Eliminates};
-use crate::FIRST_POINT;
 use cube::POINTS;
 use gf2::COLUMNS;
 use gf2::basis::keep;
 use gf2::basis::reduce;
 use gf2::packed::copy_columns;
+use point_rows::FIRST_POINT;
 
 // The number of rows kept, and of additions made.
 pub struct Taken {

@@ -11,7 +11,6 @@ ghost use Rattle.gf2.specs.Packed.{zeros};
 ghost use Rattle.refusal.specs.Verdict.{verdict};
 ghost use Rattle.matrix.specs.Rank.{ranked, rankOutcome, RankContract, rankChecks};
 use crate::elimination::eliminate;
-use crate::rows::fill_rows;
 use cube::POINTS;
 use filter::checks::check_degree;
 use filter::checks::check_length;
@@ -21,6 +20,7 @@ use gf2::WORKSPACE;
 use gf2::packed::clear;
 use order::columns::column_count;
 use order::graded_order;
+use point_rows::fill_rows;
 use refusal::Refusal;
 use refusal::verdict::Verdict;
 

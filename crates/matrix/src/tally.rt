@@ -6,12 +6,12 @@ ghost use Rattle.cube.specs.Mask.{points};
 ghost use Rattle.gf2.specs.Packed.{unpacked, rowOf, zeros, Pivots};
 ghost use Rattle.gf2.specs.Prefix.{AtMost};
 ghost use Rattle.matrix.specs.Workspace.{TakesAll, EliminatesAll};
-use crate::FIRST_POINT;
 use cube::POINTS;
 use gf2::COLUMNS;
 use gf2::basis::keep;
 use gf2::basis::reduce_tallied;
 use gf2::packed::copy_columns;
+use point_rows::FIRST_POINT;
 
 // Row `from` is taken: what is left of it is kept if it is not zero. The result is the number of kept rows.
 fn take_tallied(

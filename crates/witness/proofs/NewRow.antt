@@ -17,7 +17,8 @@ use Rattle.cube.proofs.Masks.{markedFrom, marked-all, marked-here, marked-later
 use Rattle.gf2.specs.Vector.{Row}
 use Rattle.gf2.specs.Elimination.{isZero, reduce, keepUnless}
 use Rattle.gf2.specs.Packed.{rowOf, cut, oneMoreUnless}
-use Rattle.matrix.specs.Workspace.{stored, Takes}
+use Rattle.point_rows.specs.Workspace.{stored}
+use Rattle.matrix.specs.Workspace.{Takes}
 use Rattle.immunity.specs.First.{firstIf, first}
 use Rattle.witness.specs.NewRow.{isLeft, keptWith, FindsNew}
 

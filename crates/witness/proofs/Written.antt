@@ -28,9 +28,13 @@ use Rattle.gf2.proofs.Exchange.{columns-most}
 use Rattle.gf2.proofs.Kept.{kept-echelon}
 use Rattle.gf2.proofs.Padded.{Fits, zero-padded, reduce-padded, reduce-fits, kept-fits}
 use Rattle.gf2.proofs.BackSubstitution.{solve-last-padded}
-use Rattle.matrix.specs.Matrix.{row, eliminated, choice}
-use Rattle.matrix.specs.Workspace.{exponents, RowsFrom, stored, Eliminates}
-use Rattle.matrix.proofs.Stored.{stays-rows, short-row, stored-row, kept-rows, kept-count}
+use Rattle.point_rows.specs.Rows.{row}
+use Rattle.point_rows.specs.Workspace.{exponents, RowsFrom, stored}
+use Rattle.point_rows.proofs.PointRow.{short-row}
+use Rattle.point_rows.proofs.Stored.{stays-rows, stored-row}
+use Rattle.matrix.specs.Matrix.{eliminated, choice}
+use Rattle.matrix.specs.Workspace.{Eliminates}
+use Rattle.matrix.proofs.Stored.{kept-rows, kept-count}
 use Rattle.immunity.specs.First.{first}
 use Rattle.immunity.specs.Witness.{isNew, newPoint, witnessRow, witnessAt}
 use Rattle.witness.specs.NewRow.{isLeft, keptWith, FindsNew}

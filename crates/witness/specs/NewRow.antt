@@ -10,7 +10,7 @@ use Prim.Native.Nat.{ℕ, _+_, _≤_}
 use lib.ListN.{take, drop}
 use Rattle.gf2.specs.Vector.{Row}
 use Rattle.gf2.specs.Elimination.{isZero, reduce}
-use Rattle.matrix.specs.Workspace.{stored}
+use Rattle.point_rows.specs.Workspace.{stored}
 use Rattle.immunity.specs.First.{first}
 
 -- something is left of the row of the point

@@ -12,19 +12,19 @@ ghost use Rattle.cube.specs.Cube.{size as sizeOf};
 ghost use Rattle.order.specs.Order.{Graded, columns as columnsOf};
 ghost use Rattle.gf2.specs.Vector.{chosen};
 ghost use Rattle.gf2.specs.Packed.{unpack, unpacked, zeros, Pivots};
-ghost use Rattle.matrix.specs.Workspace.{exponents, RowsFrom};
+ghost use Rattle.point_rows.specs.Workspace.{exponents, RowsFrom};
 ghost use Rattle.witness.specs.NewRow.{FindsNew};
 use cube::POINTS;
 use cube::size;
 use gf2::COLUMNS;
 use gf2::solve::entry_at;
 use gf2::solve::solve_last;
-use matrix::FIRST_POINT;
 use matrix::elimination::eliminate_with;
 use matrix::elimination::take_row;
 use order::columns::column_count;
 use order::columns::is_column;
 use order::exponent_at;
+use point_rows::FIRST_POINT;
 
 // Every byte becomes zero.
 fn clear_bytes(bytes: &mut [u8])

@@ -13,9 +13,9 @@ use Rattle.filter.specs.Sides.{pair}
 use Rattle.filter.specs.Part.{part, bothParts}
 use Rattle.filter.proofs.Filters.{few-taps}
 use Rattle.filter.proofs.PartPoints.{part-inside}
-use Rattle.matrix.specs.Workspace.{exponents}
+use Rattle.point_rows.specs.Workspace.{exponents}
+use Rattle.point_rows.proofs.Stored.{filled-rows}
 use Rattle.matrix.proofs.Rising.{points-rising}
-use Rattle.matrix.proofs.Stored.{filled-rows}
 use Rattle.immunity.proofs.PartPoints.{part-among}
 use Rattle.degree_ranks.specs.Ready.{Ready, Marks}
 use Rattle.degree_ranks.proofs.Ready.{ready-after}

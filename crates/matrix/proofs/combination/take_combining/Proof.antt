@@ -9,7 +9,7 @@ use Rattle.gf2.specs.Vector.{unit}
 use Rattle.gf2.specs.Packed.{unpacked, padded, reducedBoth}
 use Rattle.gf2.proofs.Rows.{length-rows}
 use Rattle.gf2.proofs.Steps.{pivots-same}
-use Rattle.matrix.specs.Workspace.{stored}
+use Rattle.point_rows.specs.Workspace.{stored}
 use Rattle.matrix.specs.Combination.{followed}
 use Rattle.matrix.proofs.Following.{start-kept, start-unit, followed-front}
 use Rattle.matrix.proofs.combination.take_combining.Statement.{statement}

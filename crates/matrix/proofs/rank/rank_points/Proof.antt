@@ -5,7 +5,8 @@ use Rattle.cube.specs.Mask.{points}
 use Rattle.order.specs.Order.{columns}
 use Rattle.gf2.specs.Packed.{unpacked, zeros}
 use Rattle.gf2.proofs.Rows.{length-rows}
-use Rattle.matrix.specs.Workspace.{exponents, filled, Eliminates}
+use Rattle.point_rows.specs.Workspace.{exponents, filled}
+use Rattle.matrix.specs.Workspace.{Eliminates}
 use Rattle.matrix.proofs.Ranked.{ranked-is}
 use Rattle.matrix.proofs.rank.rank_points.Statement.{statement}
 use Rattle.matrix.proofs.rank.rank_points.Tie as tie

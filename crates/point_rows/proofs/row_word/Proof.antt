@@ -12,9 +12,9 @@ use Rattle.cube.specs.Cube.{within}
 use Rattle.gf2.specs.Vector.{Row}
 use Rattle.gf2.specs.Packed.{digit, number}
 use Rattle.gf2.proofs.Packing.{number-bound}
-use Rattle.matrix.specs.Matrix.{monomials}
-use Rattle.matrix.proofs.rows.row_word.Statement.{statement}
-use Rattle.matrix.proofs.rows.row_word.Tie as tie
+use Rattle.point_rows.specs.Rows.{monomials}
+use Rattle.point_rows.proofs.row_word.Statement.{statement}
+use Rattle.point_rows.proofs.row_word.Tie as tie
 
 -- the columns that are in the word: those from place i of the 64 on
 abbrev part : List ℕ → ℕ → ℕ → ℕ → Row

@@ -10,10 +10,10 @@ use Rattle.cube.specs.Cube.{within}
 use Rattle.gf2.specs.Packed.{unpacked, number, pack}
 use Rattle.gf2.proofs.Packing.{length-pack, pack-at, unpack-pack}
 use Rattle.gf2.proofs.Rows.{paste-turn, paste-done}
-use Rattle.matrix.specs.Matrix.{monomials}
-use Rattle.matrix.proofs.Maps.{map-take, map-drop}
-use Rattle.matrix.proofs.rows.fill_row.Statement.{statement}
-use Rattle.matrix.proofs.rows.fill_row.Tie as tie
+use Rattle.point_rows.specs.Rows.{monomials}
+use Rattle.point_rows.proofs.Maps.{map-take, map-drop}
+use Rattle.point_rows.proofs.fill_row.Statement.{statement}
+use Rattle.point_rows.proofs.fill_row.Tie as tie
 
 -- the eight numbers of the row
 abbrev numbers : List ℕ → ℕ → List ℕ

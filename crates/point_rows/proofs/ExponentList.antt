@@ -17,7 +17,7 @@ use Rattle.cube.specs.NumberLists.{consIf, select}
 use Rattle.cube.specs.Cube.{size}
 use Rattle.cube.proofs.Listed.{select-snoc, length-select}
 use Rattle.order.specs.Order.{Graded}
-use Rattle.matrix.specs.Workspace.{fillTo512, exponents}
+use Rattle.point_rows.specs.Workspace.{fillTo512, exponents}
 
 -- the exponents of n taps among the first i of the order
 abbrev pub firstExponents : List ℕ → ℕ → ℕ → List ℕ

@@ -18,8 +18,8 @@ use Rattle.cube.specs.Cube.{size}
 use Rattle.cube.proofs.Masks.{length-from, value-at}
 use Rattle.gf2.specs.Vector.{Row}
 use Rattle.gf2.specs.Packed.{rowOf}
-use Rattle.matrix.specs.Matrix.{monomials}
-use Rattle.matrix.specs.Workspace.{filled, RowsFrom}
+use Rattle.point_rows.specs.Rows.{monomials}
+use Rattle.point_rows.specs.Workspace.{filled, RowsFrom}
 
 module _ (us : List ℕ) (n : ℕ) where
   -- the rows of all points

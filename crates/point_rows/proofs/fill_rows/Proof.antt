@@ -7,11 +7,11 @@ use lib.ListN.{length}
 use Rattle.cube.specs.Cube.{size}
 use Rattle.gf2.specs.Packed.{unpacked, rowOf}
 use Rattle.gf2.proofs.Rows.{length-rows}
-use Rattle.matrix.specs.Workspace.{filled}
-use Rattle.matrix.proofs.ExponentList.{length-exponents}
-use Rattle.matrix.proofs.Filling.{filledFrom, filled-none, filled-next, filled-there, filled-all}
-use Rattle.matrix.proofs.rows.fill_rows.Statement.{statement}
-use Rattle.matrix.proofs.rows.fill_rows.Tie as tie
+use Rattle.point_rows.specs.Workspace.{filled}
+use Rattle.point_rows.proofs.ExponentList.{length-exponents}
+use Rattle.point_rows.proofs.Filling.{filledFrom, filled-none, filled-next, filled-there, filled-all}
+use Rattle.point_rows.proofs.fill_rows.Statement.{statement}
+use Rattle.point_rows.proofs.fill_rows.Tie as tie
 
 abbrev Inv-loop : tie.InvT-loop
 Inv-loop ws₀ order n list a₀ ws a = (a ≤ size n) × (length ws ≡ 8192) × (unpacked ws ≡ filledFrom list n (unpacked ws₀) a)

@@ -10,10 +10,10 @@ use lib.Dec.{ltb}
 use lib.ListN.{length, getD, set, length-append}
 use Rattle.cube.specs.NumberLists.{consIf, select}
 use Rattle.cube.specs.Cube.{size}
-use Rattle.matrix.specs.Workspace.{fillTo512}
-use Rattle.matrix.proofs.ExponentList.{firstExponents, exponents-few, exponents-next, exponents-all, fill-next}
-use Rattle.matrix.proofs.rows.exponents.Statement.{statement}
-use Rattle.matrix.proofs.rows.exponents.Tie as tie
+use Rattle.point_rows.specs.Workspace.{fillTo512}
+use Rattle.point_rows.proofs.ExponentList.{firstExponents, exponents-few, exponents-next, exponents-all, fill-next}
+use Rattle.point_rows.proofs.exponents.Statement.{statement}
+use Rattle.point_rows.proofs.exponents.Tie as tie
 
 abbrev Inv-loop : tie.InvT-loop
 Inv-loop order n points list₀ count₀ i₀ list count i =

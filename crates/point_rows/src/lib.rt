@@ -1,13 +1,13 @@
-// The rows of points in the workspace, their columns in an order of the exponents.
+// The rows of points: docs/SPECIFICATION.md, 'Elimination', the matrix. Each is put in its place in the workspace, with its
+// columns in an order of the exponents.
 ghost use mathlib.Core.Path.{_≡_};
 ghost use Prim.Native.Nat.{_+_, _≤_, _<_};
 ghost use lib.ListN.{length, set, take, drop};
 ghost use Rattle.cube.specs.Cube.{size as sizeOf};
-ghost use Rattle.order.specs.Order.{Graded, columns};
+ghost use Rattle.order.specs.Order.{Graded};
 ghost use Rattle.gf2.specs.Packed.{unpacked, digit, number};
-ghost use Rattle.matrix.specs.Matrix.{monomials};
-ghost use Rattle.matrix.specs.Workspace.{exponents as exponentsOf, filled, RowsFrom, Splits};
-use crate::FIRST_POINT;
+ghost use Rattle.point_rows.specs.Rows.{monomials};
+ghost use Rattle.point_rows.specs.Workspace.{exponents as exponentsOf, filled, RowsFrom, Splits};
 use cube::POINTS;
 use cube::Point;
 use cube::size;
@@ -17,6 +17,9 @@ use gf2::ROW_WORDS;
 use gf2::WORD_BITS;
 use gf2::packed::common_row;
 use order::exponent_at;
+
+// The row of the workspace for point 0. Those of the other points follow it.
+pub const FIRST_POINT: usize = 512;
 
 // An exponent that lies within no point.
 const NO_EXPONENT: u16 = 65535;

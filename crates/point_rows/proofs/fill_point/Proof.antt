@@ -7,10 +7,10 @@ use lib.ListN.{set}
 use lib.Pow.{pow-mono}
 use Rattle.cube.specs.Cube.{size}
 use Rattle.gf2.specs.Packed.{unpacked, common}
-use Rattle.matrix.specs.Workspace.{Splits}
-use Rattle.matrix.proofs.PointRow.{common-monomials}
-use Rattle.matrix.proofs.rows.fill_point.Statement.{statement}
-use Rattle.matrix.proofs.rows.fill_point.Tie as tie
+use Rattle.point_rows.specs.Workspace.{Splits}
+use Rattle.point_rows.proofs.PointRow.{common-monomials}
+use Rattle.point_rows.proofs.fill_point.Statement.{statement}
+use Rattle.point_rows.proofs.fill_point.Tie as tie
 
 -- at most 512 points
 few : (c : tie.Start) → size (c .args .n) ≤ 512

@@ -8,7 +8,7 @@ use lib.Bits.{bitAnd, and-mask}
 use lib.Pow.{pow-pos, pow-mono, split, shr-lt, le-ones, high-ones}
 use Rattle.cube.specs.Cube.{size}
 use Rattle.cube.proofs.Bits.{and-split}
-use Rattle.matrix.specs.Workspace.{Splits}
+use Rattle.point_rows.specs.Workspace.{Splits}
 
 -- a point of n bits is split at bit k
 splits : (n k a : ℕ) → k ≤ n → a < size n → Splits n a (a - a % 2 ^ k + (2 ^ k - 1)) (2 ^ n - 2 ^ k + a % 2 ^ k)

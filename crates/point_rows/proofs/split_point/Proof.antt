@@ -5,9 +5,9 @@ use native.Mathlib.Omega.{arith}
 use lib.Bits.{bitAnd, and-le-l}
 use lib.Pow.{pow-pos, pow-mono}
 use Rattle.cube.specs.Cube.{size}
-use Rattle.matrix.proofs.Splitting.{splits-by}
-use Rattle.matrix.proofs.rows.split_point.Statement.{statement}
-use Rattle.matrix.proofs.rows.split_point.Tie as tie
+use Rattle.point_rows.proofs.Splitting.{splits-by}
+use Rattle.point_rows.proofs.split_point.Statement.{statement}
+use Rattle.point_rows.proofs.split_point.Tie as tie
 
 -- the low part has half the taps
 half : (c : tie.After-size) → c .size .result ≡ size (c .before .args .n / 2)

@@ -1,5 +1,7 @@
 -- The row of a point in the workspace.
 --   wideRow o n d a    the row of the point a at degree d, continued by zeros to 512 columns
+--   short-row          the row of a point has at most 512 columns
+--   row-prefix         the row of a point at a degree is the front of its row at a higher degree
 --   exponents-row      the exponents of n taps at a point are its row at degree n, continued by zeros
 --   first-columns      the first columns of that are its row at degree d, continued by zeros
 --   common-monomials   the monomials at a point that is the common bits of two others
@@ -10,26 +12,34 @@ use Prim.Native.Nat.{ℕ, _-_, _≤_, _<_}
 use native.Mathlib.Omega.{arith}
 use lib.Bits.{bitAnd, and-le-r}
 use lib.Dec.{ltb}
-use lib.ListN.{length, replicate, length-map}
+use lib.ListN.{length, take, replicate, length-map}
 use borrow.Author.Tests.{ne-eqb}
 use Rattle.cube.specs.NumberLists.{select}
 use Rattle.cube.specs.Cube.{size, within}
 use Rattle.order.specs.Order.{Graded, columns}
 use Rattle.cube.proofs.Bits.{within-and}
 use Rattle.cube.proofs.Listed.{length-select}
-use Rattle.order.proofs.DegreeColumns.{columns-all}
+use Rattle.order.proofs.DegreeColumns.{length-columns, columns-all, columns-prefix}
 use Rattle.gf2.specs.Vector.{Row}
 use Rattle.gf2.specs.Packed.{cut, common, padded}
 use Rattle.gf2.proofs.Each.{member-each, map-each}
 use Rattle.gf2.proofs.Padded.{append-padded, cut-padded}
-use Rattle.matrix.specs.Matrix.{monomials, row}
-use Rattle.matrix.specs.Workspace.{exponents}
-use Rattle.matrix.proofs.Maps.{map-replicate}
-use Rattle.matrix.proofs.Product.{row-prefix}
+use Rattle.point_rows.specs.Rows.{monomials, row}
+use Rattle.point_rows.specs.Workspace.{exponents}
+use Rattle.point_rows.proofs.Maps.{map-take, map-replicate}
 
 -- the row of the point a at degree d, continued by zeros to 512 columns
 abbrev pub wideRow : List ℕ → ℕ → ℕ → ℕ → Row
 wideRow o n d a = padded 512 (row o n d a)
+
+-- the row of a point has at most 512 columns
+pub short-row : {o : List ℕ} → Graded o → (n d a : ℕ) → length (row o n d a) ≤ 512
+short-row {o} g n d a = rw (length-map (columns o n d) (λ u. within u a)) (length-columns g n d)
+
+-- the row of a point at a degree is the front of its row at a higher degree
+pub row-prefix : {o : List ℕ} → Graded o → (n d e a : ℕ) → d ≤ e → row o n d a ≡ take (length (columns o n d)) (row o n e a)
+row-prefix {o} g n d e a l =
+    ap (λ us. monomials us a) (columns-prefix g n d e l) ∙ map-take (λ u. within u a) (length (columns o n d)) (columns o n e)
 
 -- 65535 lies within no point
 within-none : (a : ℕ) → a < 512 → within 65535 a ≡ false

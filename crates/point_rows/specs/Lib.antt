@@ -1,0 +1,3 @@
+-- The rows of points, and where they stand in the workspace.
+pub mod Rows
+pub mod Workspace
