@@ -1,27 +1,23 @@
 -- The columns of the built-in order stand by weight, and by number within a weight.
 --   Ordered xs        each exponent of a list has a lower key than all later ones
 --   columns-ordered   of two columns of a degree, the earlier precedes
---   row-entry         the entry of a point's row at a column, bit by bit
-use mathlib.Core.Path.{_≡_, refl, _∙_, sym}
-use mathlib.Core.Logic.{_↔_, inl, inr}
-use mathlib.Core.Bool.{Bool, true}
-use mathlib.Core.List.{List, [], _∷_, map}
-use Prim.Native.Nat.{ℕ, zero, suc, _/_, _%_, _^_, _≤_, _<_}
+use mathlib.Core.Logic.{inl, inr}
+use mathlib.Core.Bool.{Bool}
+use mathlib.Core.List.{List, [], _∷_}
+use Prim.Native.Nat.{ℕ, zero, suc, _≤_, _<_}
 use native.Mathlib.Decide.{decLt}
 use native.Mathlib.Omega.{arith}
 use lib.ListN.{length, getD}
 use lib.Pow.{pow-mono}
 use Rattle.cube.specs.NumberLists.{select}
-use Rattle.cube.specs.Cube.{within, weight}
-use Rattle.cube.proofs.Bits.{within-bits}
+use Rattle.cube.specs.Cube.{weight}
 use Rattle.cube.proofs.Listed.{member-place, place-member, select-cases, member-select}
 use Rattle.order.specs.Order.{columns}
 use Rattle.order.specs.BuiltIn.{graded}
 use Rattle.order.proofs.BuiltIn.{order-key, graded-rises, graded-is-graded}
 use Rattle.order.proofs.DegreeColumns.{member-columns}
-use Rattle.gf2.specs.Vector.{entry, Each}
+use Rattle.gf2.specs.Vector.{Each}
 use Rattle.gf2.proofs.Each.{each-member, member-each}
-use Rattle.point_rows.specs.Rows.{row}
 use Rattle.demands.specs.JudgementWords.{Precedes}
 
 -- each exponent has a lower key than all later ones
@@ -68,17 +64,3 @@ columns-ordered n d i j small l m = precedes _ _ (inside i (omega arith)) (insid
 
     inside : (i : ℕ) → i < length (columns graded n d) → getD (columns graded n d) i 0 < 512
     inside i l = omega (arith, member-columns graded-is-graded n d _ small .0 (place-member (columns graded n d) i l) .0, pow-mono small)
-
--- the value of a test at a place of a list
-entry-map : (t : ℕ → Bool) (xs : List ℕ) (c : ℕ) → c < length xs → entry (map t xs) c ≡ t (getD xs c 0)
-entry-map t [] c l = absurd (omega arith)
-entry-map t (x ∷ xs) zero l = refl
-entry-map t (x ∷ xs) (suc c) l = entry-map t xs c (omega arith)
-
--- the entry of a point's row at a column
-pub row-entry : (n d a c : ℕ) → c < length (columns graded n d)
-    → (entry (row graded n d a) c ≡ true) ↔ ((i : ℕ) → getD (columns graded n d) c 0 / 2 ^ i % 2 ≤ a / 2 ^ i % 2)
-row-entry n d a c l =
-    let at : entry (row graded n d a) c ≡ within (getD (columns graded n d) c 0) a = entry-map (λ u. within u a) (columns graded n d) c l in
-    let bits = within-bits (getD (columns graded n d) c 0) a in
-    (λ e. bits .0 (sym at ∙ e), λ h. at ∙ bits .1 h)

@@ -13,7 +13,9 @@ use borrow.Author.Tests.{eqb-true, eq-eqb, le-leb}
 use Rattle.refusal.specs.Outcome.{accepted}
 use Rattle.refusal.proofs.Verdicts.{all-passed, verdict-passes, accepted-passes}
 use Rattle.cube.specs.NumberLists.{upFrom, consIf, select}
+use Rattle.cube.specs.Cube.{within}
 use Rattle.cube.specs.Mask.{wellFormed, points}
+use Rattle.cube.proofs.Bits.{within-bits}
 use Rattle.cube.proofs.Taps.{taps-range}
 use Rattle.cube.proofs.Listed.{member-select}
 use Rattle.cube.proofs.Masks.{member-points}
@@ -23,6 +25,7 @@ use Rattle.order.proofs.BuiltIn.{graded-is-graded}
 use Rattle.order.proofs.DegreeColumns.{member-columns}
 use Rattle.gf2.specs.Elimination.{Elimination, takePoints}
 use Rattle.gf2.specs.Packed.{zeros}
+use Rattle.gf2.proofs.Columns.{entry-map}
 use Rattle.matrix.specs.Matrix.{eliminated}
 use Rattle.matrix.specs.declared.rank.Ranked.{Ranked}
 use Rattle.matrix.specs.Rank.{ranked, rankChecks, rankOutcome}
@@ -31,7 +34,7 @@ use Rattle.filter.specs.Part.{part}
 use Rattle.immunity.proofs.PartPoints.{part-rising}
 use Rattle.demands.specs.Demands.{RankAccepts}
 use Rattle.demands.specs.JudgementWords.{FewTaps, RankWords}
-use Rattle.demands.proofs.ColumnOrder.{columns-ordered, row-entry}
+use Rattle.demands.proofs.ColumnOrder.{columns-ordered}
 use Rattle.demands.proofs.Eliminations.{begins, step, no-rows, kept-just, as-many}
 use Rattle.demands.proofs.Refusals.{formed-says, rank-refuses}
 
@@ -90,7 +93,8 @@ rank-words = record {
   columns-are = λ n d u l. member-columns graded-is-graded n d u l;
   columns-ordered = columns-ordered;
   row-long = λ n d a. length-map (columns graded n d) _;
-  row-entry = row-entry;
+  within-is = within-bits;
+  row-entry = λ n d a c l. entry-map (λ u. within u a) (columns graded n d) c l;
   points-are = points-are;
   part-is = part-is;
   points-rise = points-rising;

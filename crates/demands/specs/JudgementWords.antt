@@ -29,7 +29,7 @@ use Prim.Native.Nat.{ℕ, _+_, _^_, _/_, _%_, _≤_, _<_}
 use lib.Dec.{ltb}
 use lib.ListN.{length, getD, take}
 use Rattle.cube.specs.NumberLists.{below, select}
-use Rattle.cube.specs.Cube.{size, weight}
+use Rattle.cube.specs.Cube.{size, within, weight}
 use Rattle.cube.specs.Mask.{member, points}
 use Rattle.order.specs.Order.{columns}
 use Rattle.order.specs.BuiltIn.{graded}
@@ -152,9 +152,10 @@ pub record RankWords : Type 0 where
   -- in graded order;
   pub columns-ordered : (n d i j : ℕ) → n ≤ 9 → i < j → j < length (columns graded n d) → Precedes (getD (columns graded n d) i 0) (getD (columns graded n d) j 0)
   pub row-long : (n d a : ℕ) → length (row graded n d a) ≡ length (columns graded n d)
-  -- its entry is 1 where each one bit of the exponent is a one bit of the point
-  pub row-entry : (n d a c : ℕ) → c < length (columns graded n d)
-      → (entry (row graded n d a) c ≡ true) ↔ ((i : ℕ) → getD (columns graded n d) c 0 / 2 ^ i % 2 ≤ a / 2 ^ i % 2)
+  -- an exponent lies within a point if each one bit of it is a one bit of the point;
+  pub within-is : (u a : ℕ) → (within u a ≡ true) ↔ ((i : ℕ) → u / 2 ^ i % 2 ≤ a / 2 ^ i % 2)
+  -- the entry of the row is 1 where the exponent lies within the point, else 0
+  pub row-entry : (n d a c : ℕ) → c < length (columns graded n d) → entry (row graded n d a) c ≡ within (getD (columns graded n d) c 0) a
   -- the points of a mask are those where it is 1, those of a part are the points of the set where the table is the side
   pub points-are : (b : List ℕ) (a : ℕ) → List·Memᴰ a (points b) ↔ (getD b a 0 ≡ 1)
   pub part-is : (side : ℕ) (s f : List ℕ) (a : ℕ) → List·Memᴰ a (part side s f) ↔ ((getD s a 0 ≡ 1) × (getD f a 0 ≡ side))

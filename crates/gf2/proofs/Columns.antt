@@ -1,4 +1,5 @@
 -- The pivots of the kept rows are the columns that are no sum of the columns before them.
+--   entry-map           a row of values, one for each member of a list
 --   entry-columns       a sum of columns holds parities of the rows
 --   Tied c rs           in every row, entry c is the parity with one row that is zero from c on
 --   tied-column         column c is tied exactly when it is a sum of the columns before it
@@ -12,7 +13,7 @@ use mathlib.Core.List.{List, [], _∷_, map, List·Memᴰ, List·Memᴰ·head, L
 use Prim.Native.Nat.{ℕ, zero, suc, _≤_, _<_}
 use native.Mathlib.Decide.{ℕ-discrete, decLt}
 use native.Mathlib.Omega.{arith}
-use lib.ListN.{getD, take, drop, length-take, List·getD-map, List·getD-eq-default}
+use lib.ListN.{length, getD, take, drop, length-take, List·getD-map, List·getD-eq-default}
 use lib.Seq.{getD-take}
 use Rattle.gf2.specs.Vector.{Row, entry, total, dot, Same, Each, Choice, chosen, SumOf}
 use Rattle.gf2.specs.Elimination.{pivot, Echelon, eliminate}
@@ -33,6 +34,12 @@ dot-drop b x [] zero = simp (and-false, dot-zero x [] (λ d. refl), bits)
 dot-drop b x [] (suc c) = simp (and-false, dot-zero x [] (λ d. refl), bits)
 dot-drop b x (a ∷ w) zero = refl
 dot-drop b x (a ∷ w) (suc c) = dot-drop b x w c
+
+-- the value for the member at a place
+pub entry-map : (t : ℕ → Bool) (xs : List ℕ) (c : ℕ) → c < length xs → entry (map t xs) c ≡ t (getD xs c 0)
+entry-map t [] c l = absurd (omega arith)
+entry-map t (x ∷ xs) zero l = refl
+entry-map t (x ∷ xs) (suc c) l = entry-map t xs c (omega arith)
 
 -- a column holds the entries of the rows
 entry-column : (c : ℕ) (rs : List Row) (i : ℕ) → entry (column c rs) i ≡ entry (getD rs i []) c

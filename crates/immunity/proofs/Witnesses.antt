@@ -9,7 +9,7 @@ use mathlib.Core.Path.{_≡_, refl, sym, ap, _∙_}
 use mathlib.Core.Bool.{Bool, true, false}
 use mathlib.Core.List.{List, [], _∷_, _++_, map, List·Memᴰ}
 use mathlib.Core.Option.{none}
-use Prim.Native.Nat.{ℕ, zero, suc, _≤_, _<_}
+use Prim.Native.Nat.{ℕ, _≤_, _<_}
 use native.Mathlib.Decide.{decLt}
 use native.Mathlib.Omega.{arith}
 use lib.ListN.{length, getD, length-map, List·getD-eq-default}
@@ -25,6 +25,7 @@ use Rattle.gf2.specs.Columns.{column}
 use Rattle.gf2.proofs.Bits.{not-one}
 use Rattle.gf2.proofs.Each.{each-map, each-at, each-of-map, member-each, map-each}
 use Rattle.gf2.proofs.Sums.{sum-zero}
+use Rattle.gf2.proofs.Columns.{entry-map}
 use Rattle.gf2.proofs.Witness.{witness-separates, witness-columns, witness-unique}
 use Rattle.polynomial.specs.Polynomial.{Polynomial, value}
 use Rattle.polynomial.proofs.Value.{value-same}
@@ -36,13 +37,7 @@ use Rattle.immunity.specs.Annihilator.{Annihilator}
 use Rattle.immunity.proofs.NewPoint.{new-point-is, new-point-found, new-point-none, new-point-unique}
 use Rattle.immunity.proofs.Equal.{separates-annihilates, zero-orthogonal}
 
--- the value of a test at a place of a list
-entry-map : (f : ℕ → Bool) (xs : List ℕ) (c : ℕ) → c < length xs → entry (map f xs) c ≡ f (getD xs c 0)
-entry-map f [] c l = absurd (omega arith)
-entry-map f (x ∷ xs) zero l = refl
-entry-map f (x ∷ xs) (suc c) l = entry-map f xs c (omega arith)
-
--- there is none past the list
+-- a row of values has none past the list
 entry-past : (f : ℕ → Bool) (xs : List ℕ) (c : ℕ) → length xs ≤ c → entry (map f xs) c ≡ false
 entry-past f xs c l = List·getD-eq-default (map f xs) false {n = c} (omega (arith, length-map xs f))
 
