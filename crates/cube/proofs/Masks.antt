@@ -15,9 +15,11 @@
 --   byte-small      each byte of a well formed mask is 0 or 1
 --   byte-zero       and from N on each is 0
 --   bytes-formed    a mask with such bytes is well formed
+--   formed-says     so the test of the 0/1/0 rule says what the rule says
 --   member-byte     a bit as a byte, read back
 --   byte-member     a byte that is 0 or 1 is that of its bit
 --   points-inside   those of a well formed mask are points of n taps
+--   has-point-says  the test that a mask has points says that there is one
 --   mask-member     a mask marks what passes its test
 --   points-fewer    a mask that does not mark a number below 512 marks fewer than 512
 --   lists-marked    a number is listed among the points of a mask just if the mask marks it
@@ -32,11 +34,11 @@ use native.Mathlib.Nat.{zero-add}
 use native.Mathlib.Numerals.{add-one}
 use lib.Dec.{eqb, leb}
 use lib.ListN.{length, getD, List·getD-eq-default}
-use borrow.Author.Tests.{eqb-true, leb-true, eq-eqb, ne-eqb, le-leb}
-use Rattle.cube.specs.NumberLists.{upFrom, below, consIf, select, lists, Inside}
+use borrow.Author.Tests.{eqb-true, leb-true, eq-eqb, ne-eqb, le-leb, not-true}
+use Rattle.cube.specs.NumberLists.{upFrom, below, consIf, select, lists, isEmpty, Inside}
 use Rattle.cube.specs.Cube.{size}
-use Rattle.cube.specs.Mask.{bitsThenZeros, wellFormed, member, marked, points, byte, mask}
-use Rattle.cube.proofs.Listed.{and-both, lists-member, not-listed, member-select, select-snoc, select-fewer}
+use Rattle.cube.specs.Mask.{bitsThenZeros, wellFormed, WellFormed, member, marked, points, HasPoint, byte, mask}
+use Rattle.cube.proofs.Listed.{and-both, lists-member, not-listed, member-select, select-snoc, select-fewer, some-member}
 
 -- the numbers from one on
 pub member-from : (u k v : ℕ) → List·Memᴰ v (upFrom u k) ↔ ((u ≤ v) × (v < u + k))
@@ -165,6 +167,10 @@ bytes-formed zero (x ∷ b) low high =
 bytes-formed (suc m) (x ∷ b) low high =
     rw (le-leb x 1 (low 0 (omega arith))) (bytes-formed m b (λ i l. low (suc i) (omega arith)) (λ i l. high (suc i) (omega arith)))
 
+-- the test of the 0/1/0 rule says what the rule says
+pub formed-says : (n : ℕ) (b : List ℕ) → (wellFormed n b ≡ true) ↔ WellFormed n b
+formed-says n b = (λ w. (λ a l. byte-small (size n) b a w, λ a l. byte-zero (size n) b a w l), λ h. bytes-formed (size n) b (h .0) (h .1))
+
 -- a bit as a byte, read back
 pub member-byte : (t : Bool) → eqb (byte t) 1 ≡ t
 member-byte true = refl
@@ -185,6 +191,16 @@ points-inside n b w a m = elim (decLt a (size n)) [
   | yes l ↦ l
   | no l ↦ absurd (omega (arith, eqb-true (getD b a 0) 1 (member-points b a .0 m), byte-zero (size n) b a w (omega arith)))
 ]
+
+-- a list with a member is not empty
+member-some : (xs : List ℕ) (a : ℕ) → List·Memᴰ a xs → not (isEmpty xs) ≡ true
+unfolding isEmpty
+member-some [] a m = absurd (List·Memᴰ·not-nil m)
+member-some (x ∷ xs) a m = refl
+
+-- the test that a mask has points says that there is one
+pub has-point-says : (b : List ℕ) → (not (isEmpty (points b)) ≡ true) ↔ HasPoint b
+has-point-says b = (λ e. some-member (points b) (not-true _ e), λ h. member-some (points b) (h .0) (h .1))
 
 -- a mask marks what passes its test
 pub mask-member : (t : ℕ → Bool) (u : ℕ) → u < 512 → member (mask t) u ≡ t u

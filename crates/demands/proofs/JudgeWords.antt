@@ -14,7 +14,7 @@ use Rattle.cube.specs.NumberLists.{upFrom, below, isEmpty}
 use Rattle.cube.specs.Cube.{size}
 use Rattle.cube.specs.Mask.{wellFormed, points, byte, mask}
 use Rattle.cube.proofs.Listed.{lists-member, some-member}
-use Rattle.cube.proofs.Masks.{length-from, value-at, points-inside}
+use Rattle.cube.proofs.Masks.{length-from, value-at, formed-says, points-inside}
 use Rattle.cube.proofs.MaskOf.{length-mask, mask-well-formed}
 use Rattle.order.specs.Order.{columns}
 use Rattle.order.specs.BuiltIn.{graded}
@@ -49,7 +49,6 @@ use Rattle.judge.proofs.Passed.{judge-accepted}
 use Rattle.certify.specs.Certify.{ranksEqual, certifyOutcome}
 use Rattle.certify.proofs.Compared.{inputs-pass, certify-compares, certify-accepts}
 use Rattle.demands.specs.JudgementWords.{JudgeWords}
-use Rattle.demands.proofs.Refusals.{formed-says}
 
 module _ (n : ℕ) (s f : List ℕ) where
   -- the ranks past n are all 0

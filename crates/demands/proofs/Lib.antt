@@ -4,7 +4,6 @@ pub mod Demand1
 pub mod Demand2
 pub mod Demand3
 pub mod Refusals
-pub mod ColumnOrder
 pub mod Eliminations
 pub mod RankWords
 pub mod JudgeWords

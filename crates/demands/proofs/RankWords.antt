@@ -13,18 +13,20 @@ use borrow.Author.Tests.{eqb-true, eq-eqb, le-leb}
 use Rattle.refusal.specs.Outcome.{accepted}
 use Rattle.refusal.proofs.Verdicts.{all-passed, verdict-passes, accepted-passes}
 use Rattle.cube.specs.NumberLists.{upFrom, consIf, select}
-use Rattle.cube.specs.Cube.{within}
+use Rattle.cube.specs.Cube.{Taps, within}
 use Rattle.cube.specs.Mask.{wellFormed, points}
 use Rattle.cube.proofs.Bits.{within-bits}
 use Rattle.cube.proofs.Taps.{taps-range}
 use Rattle.cube.proofs.Listed.{member-select}
-use Rattle.cube.proofs.Masks.{member-points}
+use Rattle.cube.proofs.Masks.{member-points, formed-says}
 use Rattle.order.specs.Order.{columns}
 use Rattle.order.specs.BuiltIn.{graded}
 use Rattle.order.proofs.BuiltIn.{graded-is-graded}
 use Rattle.order.proofs.DegreeColumns.{member-columns}
+use Rattle.order.proofs.ColumnOrder.{columns-ordered}
 use Rattle.gf2.specs.Elimination.{Elimination, takePoints}
 use Rattle.gf2.specs.Packed.{zeros}
+use Rattle.gf2.proofs.Sums.{sum-of-none}
 use Rattle.gf2.proofs.Columns.{entry-map}
 use Rattle.matrix.specs.Matrix.{eliminated}
 use Rattle.matrix.specs.declared.rank.Ranked.{Ranked}
@@ -33,10 +35,9 @@ use Rattle.matrix.proofs.Rising.{points-rising}
 use Rattle.filter.specs.Part.{part}
 use Rattle.immunity.proofs.PartPoints.{part-rising}
 use Rattle.demands.specs.Demands.{RankAccepts}
-use Rattle.demands.specs.JudgementWords.{FewTaps, RankWords}
-use Rattle.demands.proofs.ColumnOrder.{columns-ordered}
-use Rattle.demands.proofs.Eliminations.{begins, step, no-rows, kept-just, as-many}
-use Rattle.demands.proofs.Refusals.{formed-says, rank-refuses}
+use Rattle.demands.specs.JudgementWords.{RankWords}
+use Rattle.demands.proofs.Eliminations.{begins, step, kept-just, as-many}
+use Rattle.demands.proofs.Refusals.{rank-refuses}
 
 -- Rank answers as many rows as are kept, and the elimination's additions
 rank-kept : (b : List ℕ) (n d : ℕ) (r : Ranked) → RankAccepts b n d r → let e : Elimination = eliminated graded n d (points b) in
@@ -76,7 +77,7 @@ unfolding zeros upFrom select consIf
 empty-points = refl
 
 -- it is accepted, and gives 0 and 0
-empty-mask : (n d : ℕ) → FewTaps n → d ≤ n → RankAccepts (zeros 512) n d (record { rank = 0; additions = 0 })
+empty-mask : (n d : ℕ) → Taps n → d ≤ n → RankAccepts (zeros 512) n d (record { rank = 0; additions = 0 })
 unfolding rankOutcome eliminated takePoints
 empty-mask n d t l = verdict-passes (rankChecks (zeros 512) n d 8192) _ (all-passed (rankChecks (zeros 512) n d 8192)
     (eq-eqb _ 512 empty-long, (refl, (taps-range n .1 t, (formed, (le-leb d n l, tt)))))) ∙ ap accepted none
@@ -101,7 +102,7 @@ rank-words = record {
   part-rises = part-rising;
   begins = begins;
   step = step;
-  no-rows = no-rows;
+  no-rows = sum-of-none;
   kept = kept-just;
   rank-kept = rank-kept;
   empty-mask = empty-mask;

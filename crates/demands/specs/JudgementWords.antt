@@ -1,17 +1,6 @@
 -- The sentences of docs/SPECIFICATION.md on ranks and judgements, 'Elimination' to 'Hand over', that the demands do not
 -- state, about the definitions that the contracts equate with what the code answers and leaves.
---   Precedes u v                   the exponent u stands before v in graded order: by weight, and by number within a weight
---   FirstOne v c                   c is the first nonzero column of the row v
---   Meets rs v w m                 the row v meets the rows rs in order: m of them are added to it, and w remains
---   Step e e′ a v                  elimination goes on from e to e′ by the point a, whose row is v
---   smaller a ps                   the points of ps that are smaller than a
---   KeptPoint n d ps a             a is one of the points ps, and its row at degree d is no sum of rows of smaller ones
 --   SameRank n d ps qs             the points ps and qs have the same rank at degree d
---   Rule                           a condition on the inputs, and the number that refuses unless it holds: `number unless condition`
---   FirstBroken rs k               k is the number of the first of the rules rs that does not hold
---   FewTaps n                      n is from 1 to 9
---   Formed n b                     byte a of b is 0 or 1 for a below N, and 0 from N on
---   HasPoint s                     the set s has a point
 --   rankRules b n d m              the rules of Rank, lent the mask b and a workspace of m numbers, in the order of checking
 --   judgeRules s f n m p q         those of Judge, lent the set s, the table f, a workspace of m numbers and witness buffers of p and q bytes
 --   certifyRules s f n ..          those of Certify
@@ -21,24 +10,25 @@
 --   HandOverWords n side w handed  those on what Hand over hands back of the buffers w for a side
 --   JudgementWords                 all of them
 use mathlib.Core.Path.{_≡_}
-use mathlib.Core.Bool.{true, false}
-use mathlib.Core.Logic.{_↔_, _⊎_}
+use mathlib.Core.Bool.{true}
+use mathlib.Core.Logic.{_↔_}
 use mathlib.Core.List.{List, [], _∷_, _++_, List·Memᴰ}
 use mathlib.Core.Option.{some}
 use Prim.Native.Nat.{ℕ, _+_, _^_, _/_, _%_, _≤_, _<_}
-use lib.Dec.{ltb}
 use lib.ListN.{length, getD, take}
-use Rattle.cube.specs.NumberLists.{below, select}
-use Rattle.cube.specs.Cube.{size, within, weight}
-use Rattle.cube.specs.Mask.{member, points}
+use Rattle.cube.specs.NumberLists.{below}
+use Rattle.cube.specs.Cube.{Taps, size, within, weight}
+use Rattle.cube.specs.Mask.{WellFormed, member, points, HasPoint}
 use Rattle.order.specs.Order.{columns}
-use Rattle.order.specs.BuiltIn.{graded}
+use Rattle.order.specs.BuiltIn.{graded, Precedes}
+use Rattle.refusal.specs.Rule.{Rule, _unless_, FirstBroken}
 use Rattle.refusal.specs.Outcome.{refused}
 use Rattle.polynomial.specs.Polynomial.{Polynomial}
-use Rattle.gf2.specs.Vector.{Row, entry, add, Zero, SumOf}
+use Rattle.gf2.specs.Vector.{Row, entry, Zero, SumOf}
 use Rattle.gf2.specs.Rank.{Rank}
 use Rattle.gf2.specs.Elimination.{Elimination}
 use Rattle.gf2.specs.Points.{Rising}
+use Rattle.gf2.specs.Meeting.{Step, KeptPoint}
 use Rattle.gf2.specs.Packed.{zeros}
 use Rattle.point_rows.specs.Rows.{row, rows}
 use Rattle.matrix.specs.Matrix.{eliminated}
@@ -54,66 +44,13 @@ use Rattle.certify.specs.Certify.{certifyOutcome, CertifyAccepts}
 use Rattle.hand_over.specs.HandOver.{HandOverContract}
 use Rattle.demands.specs.Demands.{RankAccepts}
 
--- by weight, and by number within a weight
-abbrev pub Precedes : ℕ → ℕ → Type 0
-Precedes u v = (weight u < weight v) ⊎ ((weight u ≡ weight v) × (u < v))
-
--- the row has a one at column c, and none before it
-abbrev pub FirstOne : Row → ℕ → Type 0
-FirstOne v c = (entry v c ≡ true) × ((b : ℕ) → b < c → entry v b ≡ false)
-
--- where the row has a one in the first nonzero column of one of the rows, that one is added to it, one addition each
-abbrev pub Meets : List Row → Row → Row → ℕ → Type 0
-Meets [] v w m = (w ≡ v) × (m ≡ 0)
-Meets (r ∷ rs) v w m =
-    (c : ℕ) × FirstOne r c × (((entry v c ≡ true) × ((l : ℕ) × (m ≡ l + 1) × Meets rs (add v r) w l)) ⊎ ((entry v c ≡ false) × Meets rs v w m))
-
--- the row meets the rows kept so far; what remains, if it is not zero, is kept, and the point with it
-pub record Step (e e′ : Elimination) (a : ℕ) (v : Row) : Type 0 where
-  pub remains : Row
-  pub made : ℕ
-  pub meets : Meets (e .kept) v remains made
-  pub additions : e′ .additions ≡ e .additions + made
-  pub not-kept : Zero remains → (e′ .kept ≡ e .kept) × (e′ .points ≡ e .points)
-  pub kept : ¬ Zero remains → (e′ .kept ≡ e .kept ++ (remains ∷ [])) × (e′ .points ≡ e .points ++ (a ∷ []))
-
--- the smaller points of a list
-abbrev pub smaller : ℕ → List ℕ → List ℕ
-smaller a ps = select (λ q. ltb q a) ps
-
--- a point whose row is no sum of rows of smaller points
-abbrev pub KeptPoint : ℕ → ℕ → List ℕ → ℕ → Type 0
-KeptPoint n d ps a = List·Memᴰ a ps × (¬ SumOf (rows graded n d (smaller a ps)) (row graded n d a))
-
 -- one number is the rank of both
 abbrev pub SameRank : ℕ → ℕ → List ℕ → List ℕ → Type 0
 SameRank n d ps qs = (r : ℕ) × Rank (rows graded n d ps) r × Rank (rows graded n d qs) r
 
--- a condition on the inputs, and the number of the refusal where it does not hold
-infixl 70 _unless_
-pub data Rule : Type 1 where
-  _unless_ : ℕ → Type 0 → Rule
-
--- the rules before it hold, and it does not
-abbrev pub FirstBroken : List Rule → ℕ → Type 0
-FirstBroken [] k = ⊥
-FirstBroken (m unless P ∷ rs) k = ((¬ P) × (k ≡ m)) ⊎ (P × FirstBroken rs k)
-
--- from 1 to 9
-abbrev pub FewTaps : ℕ → Type 0
-FewTaps n = (1 ≤ n) × (n ≤ 9)
-
--- the 0/1/0 rule
-abbrev pub Formed : ℕ → List ℕ → Type 0
-Formed n b = ((a : ℕ) → a < size n → getD b a 0 ≤ 1) × ((a : ℕ) → size n ≤ a → getD b a 0 ≡ 0)
-
--- a point in the set
-abbrev pub HasPoint : List ℕ → Type 0
-HasPoint s = (a : ℕ) × List·Memᴰ a (points s)
-
 -- 1: mask or workspace length; 4; 8; 10: d over n
 abbrev pub rankRules : List ℕ → ℕ → ℕ → ℕ → List Rule
-rankRules b n d m = 1 unless (length b ≡ 512) ∷ 1 unless (m ≡ 8192) ∷ 4 unless FewTaps n ∷ 8 unless Formed n b ∷ 10 unless (d ≤ n) ∷ []
+rankRules b n d m = 1 unless (length b ≡ 512) ∷ 1 unless (m ≡ 8192) ∷ 4 unless Taps n ∷ 8 unless WellFormed n b ∷ 10 unless (d ≤ n) ∷ []
 
 -- 1: set, table, workspace or either of two 512-byte witness buffers; 4; 8 for the set, then the table; 6: no point in S
 abbrev pub judgeRules : List ℕ → List ℕ → ℕ → ℕ → ℕ → ℕ → List Rule
@@ -123,9 +60,9 @@ judgeRules s f n m p q =
     ∷ 1 unless (m ≡ 8192)
     ∷ 1 unless (p ≡ 512)
     ∷ 1 unless (q ≡ 512)
-    ∷ 4 unless FewTaps n
-    ∷ 8 unless Formed n s
-    ∷ 8 unless Formed n f
+    ∷ 4 unless Taps n
+    ∷ 8 unless WellFormed n s
+    ∷ 8 unless WellFormed n f
     ∷ 6 unless HasPoint s
     ∷ []
 
@@ -136,9 +73,9 @@ certifyRules s f n side d m l =
     ∷ 1 unless (length f ≡ 512)
     ∷ 1 unless (m ≡ 8192)
     ∷ 1 unless (l ≡ 4096)
-    ∷ 4 unless FewTaps n
-    ∷ 8 unless Formed n s
-    ∷ 8 unless Formed n f
+    ∷ 4 unless Taps n
+    ∷ 8 unless WellFormed n s
+    ∷ 8 unless WellFormed n f
     ∷ 6 unless HasPoint s
     ∷ 10 unless (d ≤ n)
     ∷ 11 unless (side ≤ 1)
@@ -170,12 +107,12 @@ pub record RankWords : Type 0 where
   -- a sum of no rows or columns is zero
   pub no-rows : (v : Row) → SumOf [] v ↔ Zero v
   -- a point is kept exactly when its row is not a sum of rows of the points taken before it, which are the smaller ones
-  pub kept : (n d : ℕ) (ps : List ℕ) → Rising ps → (a : ℕ) → List·Memᴰ a (eliminated graded n d ps .points) ↔ KeptPoint n d ps a
+  pub kept : (n d : ℕ) (ps : List ℕ) → Rising ps → (a : ℕ) → List·Memᴰ a (eliminated graded n d ps .points) ↔ KeptPoint (row graded n d) ps a
   -- the rank is the number kept, and the additions are those of the elimination
   pub rank-kept : (b : List ℕ) (n d : ℕ) (r : Ranked) → RankAccepts b n d r → let e : Elimination = eliminated graded n d (points b) in
       (r .rank ≡ length (e .kept)) × (r .rank ≡ length (e .points)) × (r .additions ≡ e .additions)
   -- an empty mask is accepted: 0 and 0
-  pub empty-mask : (n d : ℕ) → FewTaps n → d ≤ n → RankAccepts (zeros 512) n d (record { rank = 0; additions = 0 })
+  pub empty-mask : (n d : ℕ) → Taps n → d ≤ n → RankAccepts (zeros 512) n d (record { rank = 0; additions = 0 })
   -- a refusal is by the number of the first rule that does not hold
   pub refuses : (b : List ℕ) (n d m k : ℕ) → (rankOutcome graded b n d m ≡ refused k) ↔ FirstBroken (rankRules b n d m) k
 
@@ -192,7 +129,7 @@ pub record JudgeWords (n : ℕ) (s f : List ℕ) (j : Judgement) (k : ℕ) : Typ
       ≡ summed (λ d. eliminated graded n d (points s) .additions + eliminated graded n d (part 1 s f) .additions + eliminated graded n d (part 0 s f) .additions) (below (n + 1))
   -- each side's buffer is a mask of coefficients: 512 bytes, by the 0/1/0 rule
   pub buffer-long : (side : ℕ) → side ≤ 1 → length (ofSide side (j .witnesses)) ≡ 512
-  pub buffer-formed : (side : ℕ) → side ≤ 1 → Formed n (ofSide side (j .witnesses))
+  pub buffer-formed : (side : ℕ) → side ≤ 1 → WellFormed n (ofSide side (j .witnesses))
   -- it holds the side's witness if that side differs at k,
   pub witness : (side : ℕ) → side ≤ 1 → ¬ GivenEqual j side k → IsWitness graded n k (points s) (part side s f) (member (ofSide side (j .witnesses)))
   -- else zeros
@@ -215,9 +152,9 @@ pub record CertifyWords (n : ℕ) (s f : List ℕ) (side d : ℕ) (c : List ℕ)
 -- on what Hand over hands back
 pub record HandOverWords (n side : ℕ) (w : Sides (List ℕ)) (handed : List ℕ) : Type 0 where
   -- the part handed back is the first N bytes of the buffer of that side
-  pub handed-back : FewTaps n → side ≤ 1 → length (w .one) ≡ 512 → length (w .zero) ≡ 512 → handed ≡ take (size n) (ofSide side w)
+  pub handed-back : Taps n → side ≤ 1 → length (w .one) ≡ 512 → length (w .zero) ≡ 512 → handed ≡ take (size n) (ofSide side w)
   -- if n, the side or a length is wrong, the part is empty; that is its only refusal
-  pub empty : (FewTaps n × (side ≤ 1) × (length (w .one) ≡ 512) × (length (w .zero) ≡ 512) → ⊥) → handed ≡ []
+  pub empty : (Taps n × (side ≤ 1) × (length (w .one) ≡ 512) × (length (w .zero) ≡ 512) → ⊥) → handed ≡ []
 
 -- all of them
 pub record JudgementWords : Type 0 where

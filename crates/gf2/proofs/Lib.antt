@@ -17,6 +17,7 @@ pub mod Among
 pub mod Combinations
 pub mod BackSubstitution
 pub mod Columns
+pub mod Meeting
 pub mod Witness
 pub mod Padded
 pub mod Bitwise

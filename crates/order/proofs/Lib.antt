@@ -2,3 +2,4 @@
 pub mod BuiltIn
 pub mod ColumnCount
 pub mod DegreeColumns
+pub mod ColumnOrder

@@ -1,8 +1,11 @@
 -- The built-in order: docs/SPECIFICATION.md, 'Graded order'.
 --   ofWeights w k   the numbers below 512 of the k weights from w on, by weight, and by number within a weight
 --   graded          all 512 exponents, so ordered
+--   Precedes u v    the exponent u stands before v in graded order: by weight, and by number within a weight
+use mathlib.Core.Path.{_≡_}
+use mathlib.Core.Logic.{_⊎_}
 use mathlib.Core.List.{List, [], _++_}
-use Prim.Native.Nat.{ℕ, zero, suc}
+use Prim.Native.Nat.{ℕ, zero, suc, _<_}
 use lib.Count.{ones}
 use lib.Dec.{eqb}
 use Rattle.cube.specs.NumberLists.{upFrom, below, select}
@@ -18,3 +21,7 @@ ofWeights w (suc k) = select (λ u. eqb (weight u) w) (below 512) ++ ofWeights (
 unfoldable pub graded : List ℕ
 unfolding ofWeights
 graded = ofWeights 0 10
+
+-- u is of less weight, or of the same weight and less
+abbrev pub Precedes : ℕ → ℕ → Type 0
+Precedes u v = (weight u < weight v) ⊎ ((weight u ≡ weight v) × (u < v))

@@ -1,3 +1,4 @@
--- Laws of outcomes and of verdicts.
+-- Laws of outcomes, of verdicts and of rules.
 pub mod Outcomes
 pub mod Verdicts
+pub mod Rules

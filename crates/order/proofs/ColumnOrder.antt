@@ -3,7 +3,7 @@
 --   columns-ordered   of two columns of a degree, the earlier precedes
 use mathlib.Core.Logic.{inl, inr}
 use mathlib.Core.Bool.{Bool}
-use mathlib.Core.List.{List, [], _∷_}
+use mathlib.Core.List.{List, [], _∷_, List·Memᴰ}
 use Prim.Native.Nat.{ℕ, zero, suc, _≤_, _<_}
 use native.Mathlib.Decide.{decLt}
 use native.Mathlib.Omega.{arith}
@@ -11,25 +11,22 @@ use lib.ListN.{length, getD}
 use lib.Pow.{pow-mono}
 use Rattle.cube.specs.NumberLists.{select}
 use Rattle.cube.specs.Cube.{weight}
+use Rattle.order.specs.Order.{columns}
+use Rattle.order.specs.BuiltIn.{graded, Precedes}
 use Rattle.cube.proofs.Listed.{member-place, place-member, select-cases, member-select}
-use Rattle.order.specs.Order.{columns}
-use Rattle.order.specs.BuiltIn.{graded}
 use Rattle.order.proofs.BuiltIn.{order-key, graded-rises, graded-is-graded}
 use Rattle.order.proofs.DegreeColumns.{member-columns}
-use Rattle.gf2.specs.Vector.{Each}
-use Rattle.gf2.proofs.Each.{each-member, member-each}
-use Rattle.demands.specs.JudgementWords.{Precedes}
 
 -- each exponent has a lower key than all later ones
 abbrev Ordered : List ℕ → Type 0
 Ordered [] = Unit {0}
-Ordered (x ∷ xs) = Each (λ u. order-key x < order-key u) xs × Ordered xs
+Ordered (x ∷ xs) = ((u : ℕ) → List·Memᴰ u xs → order-key x < order-key u) × Ordered xs
 
 -- keys that rise by place
 ordered-places : (xs : List ℕ) → ((i j : ℕ) → i < j → j < length xs → order-key (getD xs i 0) < order-key (getD xs j 0)) → Ordered xs
 ordered-places [] h = tt
 ordered-places (x ∷ xs) h = (
-  member-each (λ u. order-key x < order-key u) xs (λ u m. let p = member-place m in rw (← p .2) (h 0 (suc (p .0)) (omega arith) (omega arith))),
+  λ u m. let p = member-place m in rw (← p .2) (h 0 (suc (p .0)) (omega arith) (omega arith)),
   ordered-places xs (λ i j l m. h (suc i) (suc j) (omega arith) (omega arith)),
 )
 
@@ -39,15 +36,13 @@ unfolding select
 ordered-select t [] h = tt
 ordered-select t (x ∷ xs) h =
     let rest : Ordered (select t xs) = ordered-select t xs (h .1) in
-    let lower : Each (λ u. order-key x < order-key u) (select t xs) =
-    member-each (λ u. order-key x < order-key u) (select t xs) (λ u m. each-member (λ v. order-key x < order-key v) (h .0) (member-select t xs u .0 m .1)) in
-    select-cases Ordered t x xs (λ e. (lower, rest)) (λ e. rest)
+    select-cases Ordered t x xs (λ e. (λ u m. h .0 u (member-select t xs u .0 m .1), rest)) (λ e. rest)
 
 -- by place again
 ordered-at : (xs : List ℕ) → Ordered xs → (i j : ℕ) → i < j → j < length xs → order-key (getD xs i 0) < order-key (getD xs j 0)
 ordered-at [] h i j l m = absurd (omega arith)
 ordered-at (x ∷ xs) h i zero l m = absurd (omega arith)
-ordered-at (x ∷ xs) h zero (suc j) l m = each-member (λ u. order-key x < order-key u) (h .0) (place-member xs j (omega arith))
+ordered-at (x ∷ xs) h zero (suc j) l m = h .0 (getD xs j 0) (place-member xs j (omega arith))
 ordered-at (x ∷ xs) h (suc i) (suc j) l m = ordered-at xs (h .1) i j (omega arith) (omega arith)
 
 -- of two exponents, that of the lower key precedes
