@@ -5,7 +5,7 @@ use Rattle.demands.proofs.Refusals.{judge-refuses, certify-refuses}
 use Rattle.demands.proofs.RankWords.{rank-words}
 use Rattle.demands.proofs.JudgeWords.{judge-words}
 use Rattle.demands.proofs.CertifyWords.{certify-words}
-use Rattle.demands.proofs.HandedOver.{hand-over-words}
+use Rattle.demands.proofs.HandOverWords.{hand-over-words}
 
 -- each of them
 pub judgement-words : JudgementWords

@@ -8,5 +8,5 @@ pub mod Eliminations
 pub mod RankWords
 pub mod JudgeWords
 pub mod CertifyWords
-pub mod HandedOver
+pub mod HandOverWords
 pub mod JudgementWords

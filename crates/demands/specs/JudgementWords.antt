@@ -88,6 +88,7 @@ pub record RankWords : Type 0 where
   pub columns-are : (n d u : ℕ) → n ≤ 9 → List·Memᴰ u (columns graded n d) ↔ ((u < size n) × (weight u ≤ d))
   -- in graded order;
   pub columns-ordered : (n d i j : ℕ) → n ≤ 9 → i < j → j < length (columns graded n d) → Precedes (getD (columns graded n d) i 0) (getD (columns graded n d) j 0)
+  -- so the row is as long as there are columns;
   pub row-long : (n d a : ℕ) → length (row graded n d a) ≡ length (columns graded n d)
   -- an exponent lies within a point if each one bit of it is a one bit of the point;
   pub within-is : (u a : ℕ) → (within u a ≡ true) ↔ ((i : ℕ) → u / 2 ^ i % 2 ≤ a / 2 ^ i % 2)
@@ -167,7 +168,7 @@ pub record JudgementWords : Type 0 where
   -- a refusal of Certify is by the number of the first rule that does not hold
   pub certify-refuses : (n : ℕ) (s f : List ℕ) (side d m l k : ℕ) → (certifyOutcome graded s f n side d m l ≡ refused k)
       ↔ FirstBroken (certifyRules s f n side d m l) k
-  -- where Certify accepts, so is what it writes
+  -- where Certify accepts, what it writes is as its sentences say
   pub certify : (n : ℕ) (s f : List ℕ) (side d : ℕ) (c : List ℕ) → CertifyAccepts graded n s f side d c → CertifyWords n s f side d c
-  -- and so is what Hand over hands back
+  -- what Hand over hands back is as its sentences say
   pub hand-over : (n side : ℕ) (w : Sides (List ℕ)) (handed : List ℕ) → HandOverContract n side w handed → HandOverWords n side w handed
