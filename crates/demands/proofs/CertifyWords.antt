@@ -1,6 +1,7 @@
 -- The sentences on what Certify writes hold.
 --   certify-words   each of them
-use mathlib.Core.Path.{_≡_}
+use mathlib.Core.Path.{_≡_, _∙_}
+use mathlib.Core.Bool.{false}
 use mathlib.Core.List.{List, _++_}
 use Prim.Native.Nat.{ℕ}
 use native.Mathlib.Omega.{arith}
@@ -8,24 +9,27 @@ use lib.Pow.{pow-mono}
 use borrow.Author.Tests.{eqb-true, not-true, not-false}
 use Rattle.cube.specs.NumberLists.{Inside}
 use Rattle.cube.specs.Mask.{points}
-use Rattle.cube.proofs.Masks.{points-inside}
+use Rattle.cube.proofs.Masks.{value-at, points-inside}
 use Rattle.order.specs.BuiltIn.{graded}
 use Rattle.refusal.proofs.Verdicts.{all-append, passed-all, all-passed, accepted-passes}
 use Rattle.filter.specs.Filter.{Filter}
 use Rattle.filter.specs.Part.{part}
 use Rattle.filter.proofs.Filters.{few-taps}
 use Rattle.immunity.specs.Judgement.{EqualRanks, differs}
-use Rattle.immunity.specs.Certificate.{IsCertificate, certificate}
+use Rattle.immunity.specs.Certificate.{bitOf, IsCertificate, certificate}
+use Rattle.immunity.proofs.PartPoints.{part-rising}
 use Rattle.immunity.proofs.Certificates.{certificate-is}
 use Rattle.immunity.proofs.CertificateNumbers.{certificate-numbers, certificate-only}
 use Rattle.certify.specs.Certify.{certifyInputs, ranksEqual, certifyOutcome, CertifyAccepts}
 use Rattle.certify.proofs.Compared.{certify-passed}
 use Rattle.demands.specs.JudgementWords.{CertifyWords}
+use Rattle.demands.proofs.Eliminations.{kept-just}
 
 -- each of them, where the ranks are equal
 written : (n : ℕ) (s f : List ℕ) (side d : ℕ) → Filter n s f → EqualRanks graded n s f side d → CertifyWords n s f side d (certificate graded n s f side d)
 written n s f side d p equal = record {
   is = is;
+  named-kept = λ a q out l e. kept-just n d (part side s f) (part-rising side s f) q .0 (is .sums a out .only q (value-at (bitOf (certificate graded n s f side d) a) 512 q false l ∙ e));
   numbers = certificate-numbers graded n s f side d;
   only = λ b x l. certificate-only b (certificate graded n s f side d) x is l (certificate-numbers graded n s f side d);
 }

@@ -96,6 +96,7 @@ mask-zero = refl
 words : (n : ℕ) (s f : List ℕ) (k : ℕ) → Filter n s f → isEmpty (points s) ≡ false → reported graded n s f ≡ some k → JudgeWords n s f (judged graded n s f) k
 unfolding judged sideAt
 words n s f k p has is = record {
+  ranks-long = length-map (below 10) (ranksAt graded n s f) ∙ length-from 0 10;
   past-n = λ d l. (ap (λ (r : Ranks). r .set) (ranks-past n s f d l), parts-past n s f d l);
   side-1 = λ h. side ∙ ap byte (unequal-differs graded n s f k 1 .1 (λ e. h (given 1 k (omega arith) low .1 e)));
   side-0 = λ e. side ∙ ap byte (same-differs 1 k (given 1 k (omega arith) low .0 e));

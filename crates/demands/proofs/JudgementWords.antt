@@ -1,5 +1,11 @@
 -- The sentences on ranks and judgements hold.
 --   judgement-words   each of them
+use mathlib.Core.Path.{ap, _∙_}
+use lib.ListN.{length, replicate}
+use Rattle.refusal.specs.Outcome.{left, leftBy}
+use Rattle.gf2.specs.Packed.{zeros}
+use Rattle.immunity.specs.Ranks.{noRanks}
+use Rattle.certify.specs.Certify.{clearedUnless}
 use Rattle.demands.specs.JudgementWords.{JudgementWords}
 use Rattle.demands.proofs.Refusals.{judge-refuses, certify-refuses}
 use Rattle.demands.proofs.RankWords.{rank-words}
@@ -16,4 +22,8 @@ judgement-words = record {
   certify-refuses = certify-refuses;
   certify = certify-words;
   hand-over = hand-over-words;
+  rank-zeros = λ o ws ws′ a r h e. h .leaves ∙ ap (λ x. left x ws (zeros (length ws))) e;
+  judge-zeros = λ o ws ws′ w w′ a j h e. h .leaves ∙ ap (λ x. left x ws (zeros (length ws))) e;
+  certify-zeros = λ o ws ws′ c c′ a x h e. h .leaves ∙ ap (λ y. clearedUnless y ws) e;
+  judge-number-alone = λ o ws ws′ w w′ a k h e. h .no-ranks ∙ ap (λ x. leftBy x (replicate 10 noRanks) (λ j. j .ranks)) e;
 }

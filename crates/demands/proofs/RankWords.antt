@@ -26,7 +26,7 @@ use Rattle.order.proofs.DegreeColumns.{member-columns}
 use Rattle.order.proofs.ColumnOrder.{columns-ordered}
 use Rattle.gf2.specs.Elimination.{Elimination, takePoints}
 use Rattle.gf2.specs.Packed.{zeros}
-use Rattle.gf2.proofs.Sums.{sum-of-none}
+use Rattle.gf2.proofs.Sums.{sum-zero, sum-of-none}
 use Rattle.gf2.proofs.Columns.{entry-map}
 use Rattle.matrix.specs.Matrix.{eliminated}
 use Rattle.matrix.specs.declared.rank.Ranked.{Ranked}
@@ -36,7 +36,7 @@ use Rattle.filter.specs.Part.{part}
 use Rattle.immunity.proofs.PartPoints.{part-rising}
 use Rattle.demands.specs.Demands.{RankAccepts}
 use Rattle.demands.specs.JudgementWords.{RankWords}
-use Rattle.demands.proofs.Eliminations.{begins, step, kept-just, as-many}
+use Rattle.demands.proofs.Eliminations.{begins, step, kept-just, kept-rise, number-kept, as-many}
 use Rattle.demands.proofs.Refusals.{rank-refuses}
 
 -- Rank answers as many rows as are kept, and the elimination's additions
@@ -103,7 +103,10 @@ rank-words = record {
   begins = begins;
   step = step;
   no-rows = sum-of-none;
+  none-chosen = λ rs v z. sum-zero z;
   kept = kept-just;
+  kept-rise = kept-rise;
+  number-kept = number-kept;
   rank-kept = rank-kept;
   empty-mask = empty-mask;
   refuses = rank-refuses;

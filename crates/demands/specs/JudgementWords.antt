@@ -1,5 +1,6 @@
--- The sentences of docs/SPECIFICATION.md on ranks and judgements, 'Elimination' to 'Hand over', that the demands do not
--- state, about the definitions that the contracts equate with what the code answers and leaves.
+-- The sentences of docs/SPECIFICATION.md on ranks and judgements that the demands do not state, 'Elimination' to 'Hand
+-- over' with what 'Words' and 'Outcomes' say of them, about the definitions that the contracts equate with what the code
+-- answers and leaves.
 --   SameRank n d ps qs             the points ps and qs have the same rank at degree d
 --   rankRules b n d m              the rules of Rank, lent the mask b and a workspace of m numbers, in the order of checking
 --   judgeRules s f n m p q         those of Judge, lent the set s, the table f, a workspace of m numbers and witness buffers of p and q bytes
@@ -15,14 +16,14 @@ use mathlib.Core.Logic.{_↔_}
 use mathlib.Core.List.{List, [], _∷_, _++_, List·Memᴰ}
 use mathlib.Core.Option.{some}
 use Prim.Native.Nat.{ℕ, _+_, _^_, _/_, _%_, _≤_, _<_}
-use lib.ListN.{length, getD, take}
+use lib.ListN.{length, getD, take, replicate}
 use Rattle.cube.specs.NumberLists.{below}
 use Rattle.cube.specs.Cube.{Taps, size, within, weight}
 use Rattle.cube.specs.Mask.{WellFormed, member, points, HasPoint}
 use Rattle.order.specs.Order.{columns}
 use Rattle.order.specs.BuiltIn.{graded, Precedes}
 use Rattle.refusal.specs.Rule.{Rule, _unless_, FirstBroken}
-use Rattle.refusal.specs.Outcome.{refused}
+use Rattle.refusal.specs.Outcome.{Outcome, refused, accepted}
 use Rattle.polynomial.specs.Polynomial.{Polynomial}
 use Rattle.gf2.specs.Vector.{Row, entry, Zero, SumOf}
 use Rattle.gf2.specs.Rank.{Rank}
@@ -33,14 +34,19 @@ use Rattle.gf2.specs.Packed.{zeros}
 use Rattle.point_rows.specs.Rows.{row, rows}
 use Rattle.matrix.specs.Matrix.{eliminated}
 use Rattle.matrix.specs.declared.rank.Ranked.{Ranked}
-use Rattle.matrix.specs.Rank.{rankOutcome}
+use Rattle.matrix.specs.declared.rank.RankAnswer.{RankAnswer}
+use Rattle.matrix.specs.Rank.{rankOutcome, RankContract}
 use Rattle.filter.specs.Sides.{Sides, ofSide}
 use Rattle.filter.specs.Part.{part}
+use Rattle.filter.specs.Outside.{Outside}
+use Rattle.immunity.specs.Ranks.{noRanks}
 use Rattle.immunity.specs.Witness.{IsWitness}
 use Rattle.immunity.specs.Judgement.{summed, Judgement, setRank, partRanks, GivenEqual}
-use Rattle.immunity.specs.Certificate.{IsCertificate}
-use Rattle.judge.specs.Judge.{judgeOutcome, JudgeAccepts}
-use Rattle.certify.specs.Certify.{certifyOutcome, CertifyAccepts}
+use Rattle.immunity.specs.Certificate.{bitOf, IsCertificate}
+use Rattle.judge.specs.declared.JudgeAnswer.{JudgeAnswer}
+use Rattle.judge.specs.Judge.{judgeOutcome, JudgeContract, JudgeAccepts}
+use Rattle.certify.specs.declared.CertifyAnswer.{CertifyAnswer}
+use Rattle.certify.specs.Certify.{certifyOutcome, CertifyContract, CertifyAccepts}
 use Rattle.hand_over.specs.HandOver.{HandOverContract}
 use Rattle.demands.specs.Demands.{RankAccepts}
 
@@ -105,11 +111,17 @@ pub record RankWords : Type 0 where
   -- each row meets the rows kept so far, in the order kept: if it has a one in a kept row's first nonzero column, that kept row is added
   -- to it, one addition each; what remains, if not zero, is kept
   pub step : (n d : ℕ) (ps : List ℕ) (a : ℕ) → Step (eliminated graded n d ps) (eliminated graded n d (ps ++ (a ∷ []))) a (row graded n d a)
-  -- a sum of no rows or columns is zero
+  -- a sum of no rows or columns is zero,
   pub no-rows : (v : Row) → SumOf [] v ↔ Zero v
+  -- and zero is a sum of any rows or columns: of none of them
+  pub none-chosen : (rs : List Row) (v : Row) → Zero v → SumOf rs v
   -- a point is kept exactly when its row is not a sum of rows of the points taken before it, which are the smaller ones
   pub kept : (n d : ℕ) (ps : List ℕ) → Rising ps → (a : ℕ) → List·Memᴰ a (eliminated graded n d ps .points) ↔ KeptPoint (row graded n d) ps a
-  -- the rank is the number kept, and the additions are those of the elimination
+  -- the kept points rise too: each stands there once
+  pub kept-rise : (n d : ℕ) (ps : List ℕ) → Rising ps → Rising (eliminated graded n d ps .points)
+  -- the rank of any points is the number kept
+  pub number-kept : (n d : ℕ) (ps : List ℕ) (r : ℕ) → Rank (rows graded n d ps) r ↔ (r ≡ length (eliminated graded n d ps .kept))
+  -- so is the rank that Rank answers, and its additions are those of the elimination
   pub rank-kept : (b : List ℕ) (n d : ℕ) (r : Ranked) → RankAccepts b n d r → let e : Elimination = eliminated graded n d (points b) in
       (r .rank ≡ length (e .kept)) × (r .rank ≡ length (e .points)) × (r .additions ≡ e .additions)
   -- an empty mask is accepted: 0 and 0
@@ -119,7 +131,9 @@ pub record RankWords : Type 0 where
 
 -- on what Judge answers and leaves
 pub record JudgeWords (n : ℕ) (s f : List ℕ) (j : Judgement) (k : ℕ) : Type 0 where
-  -- the ranks are all 0 for d past n
+  -- the ranks stand there for each d from 0 to 9,
+  pub ranks-long : length (j .ranks) ≡ 10
+  -- and are all 0 for d past n
   pub past-n : (d : ℕ) → n < d → (setRank j d ≡ 0) × ((side : ℕ) → side ≤ 1 → ofSide side (partRanks j d) ≡ 0)
   -- the side is 1 if side 1 differs at k,
   pub side-1 : ¬ GivenEqual j 1 k → j .side ≡ 1
@@ -145,6 +159,8 @@ pub record JudgeWords (n : ℕ) (s f : List ℕ) (j : Judgement) (k : ℕ) : Typ
 pub record CertifyWords (n : ℕ) (s f : List ℕ) (side d : ℕ) (c : List ℕ) : Type 0 where
   -- for a in S outside the part, bit q mod 64 of number q / 64 of row a is 1 exactly for the kept q whose rows sum to the row of a; all other bits are 0
   pub is : IsCertificate graded n d (points s) (part side s f) c
+  -- a kept q is a point of the part whose row at degree d is not a sum of rows of smaller points of the part
+  pub named-kept : (a q : ℕ) → Outside (points s) (part side s f) a → q < 512 → bitOf c a q ≡ true → KeptPoint (row graded n d) (part side s f) q
   -- the numbers are of 64 bits
   pub numbers : (i : ℕ) → getD c i 0 < 2 ^ 64
   -- nothing else is such a certificate
@@ -172,3 +188,14 @@ pub record JudgementWords : Type 0 where
   pub certify : (n : ℕ) (s f : List ℕ) (side d : ℕ) (c : List ℕ) → CertifyAccepts graded n s f side d c → CertifyWords n s f side d c
   -- what Hand over hands back is as its sentences say
   pub hand-over : (n side : ℕ) (w : Sides (List ℕ)) (handed : List ℕ) → HandOverContract n side w handed → HandOverWords n side w handed
+  -- after acceptance the workspace is all zero: of Rank,
+  pub rank-zeros : (o : Outcome Ranked) (ws ws′ : List ℕ) (a : RankAnswer) (r : Ranked) → RankContract o ws ws′ a → o ≡ accepted r → ws′ ≡ zeros (length ws)
+  -- of Judge,
+  pub judge-zeros : (o : Outcome Judgement) (ws ws′ : List ℕ) (w w′ : Sides (List ℕ)) (a : JudgeAnswer) (j : Judgement)
+      → JudgeContract o ws ws′ w w′ a → o ≡ accepted j → ws′ ≡ zeros (length ws)
+  -- and of Certify
+  pub certify-zeros : (o : Outcome (List ℕ)) (ws ws′ c c′ : List ℕ) (a : CertifyAnswer) (x : List ℕ)
+      → CertifyContract o ws ws′ c c′ a → o ≡ accepted x → ws′ ≡ zeros (length ws)
+  -- a refusal of Judge answers its number alone: the ranks beside it are all 0
+  pub judge-number-alone : (o : Outcome Judgement) (ws ws′ : List ℕ) (w w′ : Sides (List ℕ)) (a : JudgeAnswer) (k : ℕ)
+      → JudgeContract o ws ws′ w w′ a → o ≡ refused k → a .ranks ≡ replicate 10 noRanks
