@@ -12,6 +12,7 @@ use Rattle.demands.proofs.RankWords.{rank-words}
 use Rattle.demands.proofs.JudgeWords.{judge-words}
 use Rattle.demands.proofs.CertifyWords.{certify-words}
 use Rattle.demands.proofs.HandOverWords.{hand-over-words}
+use Rattle.demands.proofs.SheetWords.{sheet-words}
 
 -- each of them
 pub judgement-words : JudgementWords
@@ -26,4 +27,5 @@ judgement-words = record {
   judge-zeros = λ o ws ws′ w w′ a j h e. h .leaves ∙ ap (λ x. left x ws (zeros (length ws))) e;
   certify-zeros = λ o ws ws′ c c′ a x h e. h .leaves ∙ ap (λ y. clearedUnless y ws) e;
   judge-number-alone = λ o ws ws′ w w′ a k h e. h .no-ranks ∙ ap (λ x. leftBy x (replicate 10 noRanks) (λ j. j .ranks)) e;
+  sheet = sheet-words;
 }

@@ -9,4 +9,5 @@ pub mod RankWords
 pub mod JudgeWords
 pub mod CertifyWords
 pub mod HandOverWords
+pub mod SheetWords
 pub mod JudgementWords

@@ -1,6 +1,6 @@
 -- The sentences of docs/SPECIFICATION.md on ranks and judgements that the demands do not state, 'Elimination' to 'Hand
--- over' with what 'Words' and 'Outcomes' say of them, about the definitions that the contracts equate with what the code
--- answers and leaves.
+-- over' with what 'Words', 'Outcomes' and 'Sheet' say of them, about the definitions that the contracts equate with what
+-- the code answers and leaves.
 --   SameRank n d ps qs             the points ps and qs have the same rank at degree d
 --   rankRules b n d m              the rules of Rank, lent the mask b and a workspace of m numbers, in the order of checking
 --   judgeRules s f n m p q         those of Judge, lent the set s, the table f, a workspace of m numbers and witness buffers of p and q bytes
@@ -9,6 +9,7 @@
 --   JudgeWords n s f j k           those on what Judge answers and leaves, where the reported degree is k
 --   CertifyWords n s f side d c    those on what Certify writes for a side at degree d
 --   HandOverWords n side w handed  those on what Hand over hands back of the buffers w for a side
+--   SheetWords                     those on what the sheet is made of
 --   JudgementWords                 all of them
 use mathlib.Core.Path.{_≡_}
 use mathlib.Core.Bool.{true}
@@ -17,9 +18,9 @@ use mathlib.Core.List.{List, [], _∷_, _++_, List·Memᴰ}
 use mathlib.Core.Option.{some}
 use Prim.Native.Nat.{ℕ, _+_, _^_, _/_, _%_, _≤_, _<_}
 use lib.ListN.{length, getD, take, replicate}
-use Rattle.cube.specs.NumberLists.{below}
+use Rattle.cube.specs.NumberLists.{below, lists}
 use Rattle.cube.specs.Cube.{Taps, size, within, weight}
-use Rattle.cube.specs.Mask.{WellFormed, member, points, HasPoint}
+use Rattle.cube.specs.Mask.{WellFormed, member, points, HasPoint, mask}
 use Rattle.order.specs.Order.{columns}
 use Rattle.order.specs.BuiltIn.{graded, Precedes}
 use Rattle.refusal.specs.Rule.{Rule, _unless_, FirstBroken}
@@ -38,7 +39,9 @@ use Rattle.matrix.specs.declared.rank.RankAnswer.{RankAnswer}
 use Rattle.matrix.specs.Rank.{rankOutcome, RankContract}
 use Rattle.filter.specs.Sides.{Sides, ofSide}
 use Rattle.filter.specs.Part.{part}
-use Rattle.filter.specs.Outside.{Outside}
+use Rattle.filter.specs.Outside.{Outside, outside}
+use Rattle.filter_file.specs.File.{Contents}
+use Rattle.filter_file.specs.Read.{reading}
 use Rattle.immunity.specs.Ranks.{noRanks}
 use Rattle.immunity.specs.Witness.{IsWitness}
 use Rattle.immunity.specs.Judgement.{summed, Judgement, setRank, partRanks, GivenEqual}
@@ -48,6 +51,8 @@ use Rattle.judge.specs.Judge.{judgeOutcome, JudgeContract, JudgeAccepts}
 use Rattle.certify.specs.declared.CertifyAnswer.{CertifyAnswer}
 use Rattle.certify.specs.Certify.{certifyOutcome, CertifyContract, CertifyAccepts}
 use Rattle.hand_over.specs.HandOver.{HandOverContract}
+use Rattle.sheet_lines.specs.Lines.{sumLines}
+use Rattle.sheet_text.specs.Sheet.{sideSums, judgementSheet, sheet}
 use Rattle.demands.specs.Demands.{RankAccepts}
 
 -- one number is the rank of both
@@ -173,6 +178,16 @@ pub record HandOverWords (n side : ℕ) (w : Sides (List ℕ)) (handed : List �
   -- if n, the side or a length is wrong, the part is empty; that is its only refusal
   pub empty : (Taps n × (side ≤ 1) × (length (w .one) ≡ 512) × (length (w .zero) ≡ 512) → ⊥) → handed ≡ []
 
+-- on what the sheet is made of
+pub record SheetWords : Type 0 where
+  -- of what Judge answers and leaves for the file that is read,
+  pub sheet-judged : (file : List ℕ) (c : Contents) (j : Judgement) → reading file ≡ accepted c
+      → let s : List ℕ = mask (lists (c .set)) in let f : List ℕ = mask (lists (c .table)) in
+      JudgeAccepts graded (c .n) s f j → sheet file ≡ judgementSheet (c .n) s f j
+  -- and of what Certify writes
+  pub sums-certified : (n : ℕ) (s f : List ℕ) (side d : ℕ) (c : List ℕ) → CertifyAccepts graded n s f side d c
+      → sideSums n s f d side ≡ sumLines side c (outside (points s) (part side s f))
+
 -- all of them
 pub record JudgementWords : Type 0 where
   -- on elimination, and on Rank
@@ -199,3 +214,5 @@ pub record JudgementWords : Type 0 where
   -- a refusal of Judge answers its number alone: the ranks beside it are all 0
   pub judge-number-alone : (o : Outcome Judgement) (ws ws′ : List ℕ) (w w′ : Sides (List ℕ)) (a : JudgeAnswer) (k : ℕ)
       → JudgeContract o ws ws′ w w′ a → o ≡ refused k → a .ranks ≡ replicate 10 noRanks
+  -- on what the sheet is made of
+  pub sheet : SheetWords
