@@ -47,7 +47,7 @@ pub data Fact : Type 0 where
   degree : ℕ → Fact
   -- and this side
   side : ℕ → Fact
-  -- whose witness has these exponents, in graded order
+  -- the witness of the side that Judge gives has these exponents, in graded order
   witness : List ℕ → Fact
   -- the file of n, the set and the table has these bytes, and its sheet these lines
   printed : List ℕ → List String → Fact
@@ -118,10 +118,15 @@ holdAll (c ∷ cs) = holds c && holdAll cs
 -- cases 1 to 10
 unfoldable pub cases : List Case
 cases =
+    -- case 1
     record { taps = 3; set = []; table = 7 ∷ []; facts = coefficients (7 ∷ []) ∷ [] }
+    -- case 2
     ∷ record { taps = 2; set = []; table = 0 ∷ []; facts = coefficients (0 ∷ 1 ∷ 2 ∷ 3 ∷ []) ∷ [] }
+    -- case 3
     ∷ record { taps = 1; set = []; table = []; facts = noDegree 9 ∷ [] }
+    -- case 4
     ∷ record { taps = 2; set = []; table = []; facts = rank 1 0 ∷ [] }
+    -- case 5
     ∷ record {
       taps = 2;
       set = 0 ∷ 1 ∷ 2 ∷ 3 ∷ [];
@@ -144,19 +149,24 @@ cases =
           )
           ∷ [];
     }
+    -- case 6
     ∷ record {
       taps = 3;
       set = 0 ∷ 1 ∷ 2 ∷ 3 ∷ 4 ∷ 5 ∷ 6 ∷ 7 ∷ [];
       table = 3 ∷ 5 ∷ 6 ∷ 7 ∷ [];
       facts = ranks 1 4 4 4 ∷ degree 2 ∷ side 1 ∷ [];
     }
+    -- case 7
     ∷ record {
       taps = 4;
       set = 0 ∷ 3 ∷ 5 ∷ 6 ∷ 9 ∷ 10 ∷ 12 ∷ 15 ∷ [];
       table = 6 ∷ 10 ∷ 12 ∷ 15 ∷ [];
       facts = ranks 1 4 4 4 ∷ degree 2 ∷ [];
     }
+    -- case 8
     ∷ record { taps = 1; set = 0 ∷ []; table = []; facts = degree 0 ∷ side 1 ∷ witness (0 ∷ []) ∷ [] }
+    -- case 9
     ∷ record { taps = 1; set = 0 ∷ []; table = 0 ∷ []; facts = degree 0 ∷ side 0 ∷ witness (0 ∷ []) ∷ [] }
+    -- case 10
     ∷ record { taps = 2; set = 1 ∷ 2 ∷ []; table = 1 ∷ []; facts = setRanks (1 ∷ 2 ∷ 2 ∷ []) ∷ degree 1 ∷ witness (0 ∷ 1 ∷ []) ∷ [] }
     ∷ []
