@@ -19,7 +19,8 @@ use Rattle.gf2.proofs.Rank.{rank-unique}
 use Rattle.gf2.proofs.Eliminate.{taken}
 use Rattle.gf2.proofs.Kept.{eliminate-snoc, kept-echelon, points-rising}
 use Rattle.gf2.proofs.Meeting.{take-step, kept-of}
-use Rattle.matrix.specs.Matrix.{row, rows, eliminated}
+use Rattle.point_rows.specs.Rows.{row, rows}
+use Rattle.matrix.specs.Matrix.{eliminated}
 use Rattle.matrix.proofs.RankOf.{rank-of}
 
 -- nothing is kept before the first point
