@@ -2,17 +2,18 @@
 --   sumAt t c k ps a           the sum of the combinations of the rows that are added to the row of the point a
 --   Sums t t′ c k ps s b a     the sums of the points below a that are in the set s and outside the part b stand in their places
 --   outsideRow s b t a         the row in the place of the point a where it is in the set s and outside the part b, else none
+--   wordOf v k                 number k of the row v: its 64 bits from bit 64 k on
 --   written s b t              the 4,096 numbers of these rows
 use mathlib.Core.Path.{_≡_}
 use mathlib.Core.Bool.{true}
 use mathlib.Core.List.{List, map}
-use Prim.Native.Nat.{ℕ, _+_, _≤_, _<_}
-use lib.ListN.{set, take}
+use Prim.Native.Nat.{ℕ, _+_, _*_, _≤_, _<_}
+use lib.ListN.{take, drop}
 use Rattle.cube.specs.NumberLists.{below}
 use Rattle.cube.specs.Mask.{points}
 use Rattle.gf2.specs.Vector.{Row, add, total, chosen}
 use Rattle.gf2.specs.Elimination.{reduce}
-use Rattle.gf2.specs.Packed.{rowOf, zeroRow}
+use Rattle.gf2.specs.Packed.{rowOf, zeroRow, number}
 use Rattle.point_rows.specs.Workspace.{stored}
 use Rattle.immunity.specs.Certificate.{rowIf, numberAt}
 use Rattle.filter.specs.Outside.{isOutside}
@@ -32,6 +33,10 @@ pub record Sums (t t′ : List Row) (c k : ℕ) (ps s b : List ℕ) (a : ℕ) : 
 unfoldable pub outsideRow : List ℕ → List ℕ → List Row → ℕ → Row
 unfolding rowIf
 outsideRow s b t a = rowIf (isOutside (points s) (points b) a) (rowOf t (512 + a))
+
+-- 64 bits of a row, from bit 64 k on
+abbrev pub wordOf : Row → ℕ → ℕ
+wordOf v k = number (take 64 (drop (64 * k) v))
 
 -- the numbers of these rows
 abbrev pub written : List ℕ → List ℕ → List Row → List ℕ

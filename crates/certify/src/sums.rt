@@ -4,16 +4,16 @@ ghost use Prim.Native.Nat.{_<_, _+_, _≤_};
 ghost use lib.ListN.{length, set};
 ghost use Rattle.cube.specs.Mask.{points};
 ghost use Rattle.gf2.specs.Packed.{unpacked, zeroRow, Pivots, Places};
-ghost use Rattle.immunity.specs.Certificate.{numberAt};
-ghost use Rattle.certify.specs.Sums.{outsideRow, written, Sums};
+ghost use Rattle.certify.specs.Sums.{outsideRow, wordOf, written, Sums};
 ghost use Rattle.matrix.specs.Combination.{followed, OutsidePlaces};
 use crate::CERTIFICATE;
 use cube::POINTS;
+use cube::Point;
 use filter::part::is_outside;
 use gf2::ROW_WORDS;
 use gf2::basis::reduce_both;
 use matrix::combination::move_row;
-use point_rows::FIRST_POINT;
+use point_rows::row_of;
 
 // The sum of the combinations of the rows that are added to the row of the point `a` is put in its place.
 fn combine_point(
@@ -21,18 +21,18 @@ fn combine_point(
     pivots: &[u16],
     places: &[u16],
     kept: usize,
-    a: usize,
+    a: Point,
     columns: usize,
 )
-    requires { ⌜ (length (now ws) ≡ 8192) × (length (now pivots) ≡ 512) × (length (now places) ≡ 512) × (kept < 512) × (a < 512) × Pivots (now pivots) (unpacked (now ws)) kept × Places (now places) kept (512 + a) ⌝ }
-    ensures { λ _. ⌜ unpacked (now (ws .exit)) ≡ followed columns kept a zeroRow (now (places .entry)) (unpacked (now (ws .entry))) ⌝ }
+    requires { ⌜ (length (now ws) ≡ 8192) × (length (now pivots) ≡ 512) × (length (now places) ≡ 512) × (kept < 512) × (a .0 < 512) × Pivots (now pivots) (unpacked (now ws)) kept × Places (now places) kept (512 + a .0) ⌝ }
+    ensures { λ _. ⌜ unpacked (now (ws .exit)) ≡ followed columns kept (a .0) zeroRow (now (places .entry)) (unpacked (now (ws .entry))) ⌝ }
 {
     move_row(ws, kept, a, columns);
-    reduce_both(ws, pivots, places, kept, kept, FIRST_POINT + a);
+    reduce_both(ws, pivots, places, kept, kept, row_of(a));
 }
 
 // For each point of `set` outside `part` the sum of the combinations of the rows that are added to its row is put in
-// its place.
+// its place. The rows from the kept ones to 512, and those in the places of other points that are not kept, are scratch.
 pub fn combine_outside(
     ws: &mut [u64],
     pivots: &[u16],
@@ -47,20 +47,21 @@ pub fn combine_outside(
 {
     let mut a: usize = 0;
     while a < POINTS {
-        if is_outside(set, part, a) {
-            combine_point(ws, pivots, places, kept, a, columns);
+        let point = Point(a as u16);
+        if is_outside(set, part, point) {
+            combine_point(ws, pivots, places, kept, point, columns);
         }
         a += 1;
     }
 }
 
-// Number `i` of the certificate: of the row in the place of its point, if that is in `set` and outside `part`.
-fn certificate_word(ws: &[u64], set: &[u8], part: &[u8], i: usize) -> u64
-    requires { ⌜ (length (now ws) ≡ 8192) × (length (now set) ≡ 512) × (length (now part) ≡ 512) × (i < 4096) ⌝ }
-    ensures { λ r. ⌜ r ≡ numberAt (outsideRow (now (set .entry)) (now (part .entry)) (unpacked (now (ws .entry)))) i ⌝ }
+// Number `k` of the point `a` in the certificate: of the row in its place, if it is in `set` and outside `part`.
+fn certificate_word(ws: &[u64], set: &[u8], part: &[u8], a: Point, k: usize) -> u64
+    requires { ⌜ (length (now ws) ≡ 8192) × (length (now set) ≡ 512) × (length (now part) ≡ 512) × (a .0 < 512) × (k < 8) ⌝ }
+    ensures { λ r. ⌜ r ≡ wordOf (outsideRow (now (set .entry)) (now (part .entry)) (unpacked (now (ws .entry))) (a .0)) k ⌝ }
 {
-    if is_outside(set, part, i / ROW_WORDS) {
-        return ws[FIRST_POINT * ROW_WORDS + i];
+    if is_outside(set, part, a) {
+        return ws[row_of(a) * ROW_WORDS + k];
     }
     0
 }
@@ -73,7 +74,8 @@ pub fn write_certificate(ws: &[u64], set: &[u8], part: &[u8], certificate: &mut 
 {
     let mut i: usize = 0;
     while i < CERTIFICATE {
-        certificate[i] = certificate_word(ws, set, part, i);
+        let a = Point((i / ROW_WORDS) as u16);
+        certificate[i] = certificate_word(ws, set, part, a, i % ROW_WORDS);
         i += 1;
     }
 }

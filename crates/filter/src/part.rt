@@ -8,6 +8,7 @@ ghost use lib.Dec.{eqb};
 ghost use Rattle.cube.specs.Mask.{points, byte};
 ghost use Rattle.filter.specs.Part.{part};
 use cube::POINTS;
+use cube::Point;
 
 // 1 where the byte of the set is 1 and that of the table is `side`, else 0.
 fn part_byte(point: u8, value: u8, side: u8) -> u8
@@ -21,7 +22,7 @@ fn part_byte(point: u8, value: u8, side: u8) -> u8
     0
 }
 
-// The mask of the points of `set` where `table` is `side`.
+// The mask of the points of `set` where `table` is `side`. A kernel for the crates above.
 pub fn part_mask(set: &[u8], table: &[u8], side: u8) -> [u8; 512]
     requires { ⌜ (length (now set) ≡ 512) × (length (now table) ≡ 512) ⌝ }
     ensures { λ r. ⌜ points r ≡ part side (now (set .entry)) (now (table .entry)) ⌝ }
@@ -35,13 +36,14 @@ pub fn part_mask(set: &[u8], table: &[u8], side: u8) -> [u8; 512]
     mask
 }
 
-// Whether the point `a` is in `set` and outside `part`.
-pub fn is_outside(set: &[u8], part: &[u8], a: usize) -> bool
-    requires { ⌜ (length (now set) ≡ 512) × (length (now part) ≡ 512) × (a < 512) ⌝ }
-    ensures { λ r. ⌜ r ≡ isOutside (points (now (set .entry))) (points (now (part .entry))) a ⌝ }
+// Whether the point `a` is in `set` and outside `part`. A kernel for the crates above.
+pub fn is_outside(set: &[u8], part: &[u8], a: Point) -> bool
+    requires { ⌜ (length (now set) ≡ 512) × (length (now part) ≡ 512) × (a .0 < 512) ⌝ }
+    ensures { λ r. ⌜ r ≡ isOutside (points (now (set .entry))) (points (now (part .entry))) (a .0) ⌝ }
 {
-    if set[a] == 1 {
-        return part[a] != 1;
+    let i = a.0 as usize;
+    if set[i] == 1 {
+        return part[i] != 1;
     }
     false
 }

@@ -1,5 +1,5 @@
 // The kept rows of an elimination, a basis of the span of the rows taken: the first rows of the workspace, each with its
-// pivot.
+// pivot. Kernels for the crates above: each contract covers the whole workspace and the whole tally.
 ghost use mathlib.Core.Path.{_≡_};
 ghost use Prim.Native.Nat.{_+_, _*_, _<_, _≤_};
 ghost use lib.ListN.{length, take};
@@ -70,7 +70,7 @@ pub fn reduce_both(
     }
 }
 
-// Row `kept` becomes a kept row, unless it is zero. The result is the number of kept rows.
+// Row `kept` becomes a kept row, unless it is zero. The result is the number of kept rows; pivots past them are scratch.
 pub fn keep(ws: &[u64], pivots: &mut [u16], kept: usize) -> usize
     requires { ⌜ (length (now ws) ≡ 8192) × (length (now pivots) ≡ 512) × (kept < 512) × Pivots (now pivots) (unpacked (now ws)) kept ⌝ }
     ensures { λ r. ⌜ (r ≡ oneMoreUnless (isZero (rowOf (unpacked (now (ws .entry))) kept)) kept) × (r ≤ kept + 1) ⌝ }

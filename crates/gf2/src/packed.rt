@@ -1,5 +1,6 @@
 // Rows of 512 columns, packed into a lent workspace of 8,192 numbers: row j is the eight numbers from 8 * j, and bit
-// c % 64 (from the lowest) of number c / 64 of a row is its column c.
+// c % 64 (from the lowest) of number c / 64 of a row is its column c. Kernels for the crates above: each contract
+// covers the whole workspace.
 ghost use mathlib.Core.Path.{_≡_};
 ghost use mathlib.Core.Bool.{true};
 ghost use Prim.Native.Nat.{_-_, _%_, _^_, _<_};

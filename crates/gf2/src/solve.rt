@@ -1,4 +1,5 @@
-// Back substitution on packed rows: a row with given parities against the kept rows.
+// Back substitution on packed rows: a row with given parities against the kept rows. Kernels for the crates above, which
+// change no lent buffer.
 ghost use mathlib.Core.Path.{_≡_};
 ghost use mathlib.Core.Bool.{true};
 ghost use Prim.Native.Nat.{_+_, _<_};

@@ -10,20 +10,23 @@ ghost use Rattle.gf2.specs.Packed.{unpacked, rowOf, zeroRow, padded, Pivots, Pl
 ghost use Rattle.point_rows.specs.Workspace.{stored};
 ghost use Rattle.matrix.specs.Combination.{followed, Combines, OutsidePlaces};
 use cube::POINTS;
+use cube::Point;
 use gf2::basis::keep;
 use gf2::basis::reduce_both;
 use gf2::packed::clear_row;
 use gf2::packed::copy_columns;
 use gf2::packed::set_entry;
-use point_rows::FIRST_POINT;
+use point_rows::row_of;
 
-// The first `columns` columns of the row of the point `a` are put behind the `kept` rows, and its place is cleared.
-pub fn move_row(ws: &mut [u64], kept: usize, a: usize, columns: usize)
-    requires { ⌜ (length (now ws) ≡ 8192) × (kept < 512) × (a < 512) ⌝ }
-    ensures { λ _. ⌜ unpacked (now (ws .exit)) ≡ set (set (unpacked (now (ws .entry))) kept (stored (unpacked (now (ws .entry))) columns a)) (512 + a) zeroRow ⌝ }
+// The first `columns` columns of the row of the point `a` are put behind the `kept` rows, and its place is cleared. A
+// kernel for the crates above: no other row changes.
+pub fn move_row(ws: &mut [u64], kept: usize, a: Point, columns: usize)
+    requires { ⌜ (length (now ws) ≡ 8192) × (kept < 512) × (a .0 < 512) ⌝ }
+    ensures { λ _. ⌜ unpacked (now (ws .exit)) ≡ set (set (unpacked (now (ws .entry))) kept (stored (unpacked (now (ws .entry))) columns (a .0))) (512 + a .0) zeroRow ⌝ }
 {
-    copy_columns(ws, kept, FIRST_POINT + a, columns);
-    clear_row(ws, FIRST_POINT + a);
+    let place = row_of(a);
+    copy_columns(ws, kept, place, columns);
+    clear_row(ws, place);
 }
 
 // The point `q` is taken: what is left of the first `columns` columns of its row is kept if it is not zero, and its
@@ -33,25 +36,26 @@ fn take_combining(
     pivots: &mut [u16],
     places: &mut [u16],
     kept: usize,
-    q: usize,
+    q: Point,
     columns: usize,
 ) -> usize
-    requires { ⌜ (length (now ws) ≡ 8192) × (length (now pivots) ≡ 512) × (length (now places) ≡ 512) × (kept < 512) × (q < 512) × Pivots (now pivots) (unpacked (now ws)) kept × Places (now places) kept (512 + q) ⌝ }
-    ensures { λ r. ⌜ unpacked (now (ws .exit)) ≡ followed columns kept q (padded 512 (unit q)) (now (places .entry)) (unpacked (now (ws .entry))) ⌝ }
-    ensures { λ r. ⌜ now (places .exit) ≡ set (now (places .entry)) kept (512 + q) ⌝ }
+    requires { ⌜ (length (now ws) ≡ 8192) × (length (now pivots) ≡ 512) × (length (now places) ≡ 512) × (kept < 512) × (q .0 < 512) × Pivots (now pivots) (unpacked (now ws)) kept × Places (now places) kept (512 + q .0) ⌝ }
+    ensures { λ r. ⌜ unpacked (now (ws .exit)) ≡ followed columns kept (q .0) (padded 512 (unit (q .0))) (now (places .entry)) (unpacked (now (ws .entry))) ⌝ }
+    ensures { λ r. ⌜ now (places .exit) ≡ set (now (places .entry)) kept (512 + q .0) ⌝ }
     ensures { λ r. ⌜ (r ≡ oneMoreUnless (isZero (rowOf (unpacked (now (ws .exit))) kept)) kept) × (r ≤ kept + 1) ⌝ }
     ensures { λ r. ⌜ Pivots (now (pivots .exit)) (unpacked (now (ws .exit))) r ⌝ }
 {
-    let place = FIRST_POINT + q;
+    let place = row_of(q);
     move_row(ws, kept, q, columns);
-    set_entry(ws, place, q);
+    set_entry(ws, place, q.0 as usize);
     reduce_both(ws, pivots, places, kept, kept, place);
     places[kept] = place as u16;
     keep(ws, pivots, kept)
 }
 
 // The points of `part` are taken as in an elimination. The combination of each kept row stands at its place, which is
-// that of its point. The result is the number of kept rows.
+// that of its point. The result is the number of kept rows. A kernel for the crates above: the rows from the kept ones to
+// 512, those in the places of points of `part` that are not kept, and the pivots and places past the kept ones are scratch.
 pub fn eliminate_combining(
     ws: &mut [u64],
     pivots: &mut [u16],
@@ -68,7 +72,7 @@ pub fn eliminate_combining(
     let mut q: usize = 0;
     while q < POINTS {
         if part[q] == 1 {
-            kept = take_combining(ws, pivots, places, kept, q, columns);
+            kept = take_combining(ws, pivots, places, kept, Point(q as u16), columns);
         }
         q += 1;
     }

@@ -3,14 +3,16 @@ ghost use mathlib.Core.Path.{_≡_};
 ghost use Prim.Native.Nat.{_≤_, _<_};
 ghost use lib.ListN.{length};
 ghost use Rattle.cube.specs.Mask.{points};
-ghost use Rattle.gf2.specs.Packed.{unpacked, rowOf, cut, Pivots};
+ghost use Rattle.gf2.specs.Packed.{unpacked, Pivots};
+ghost use Rattle.point_rows.specs.Workspace.{stored};
 ghost use Rattle.matrix.specs.Workspace.{Takes, Eliminates};
 use cube::POINTS;
+use cube::Point;
 use gf2::COLUMNS;
 use gf2::basis::keep;
 use gf2::basis::reduce;
 use gf2::packed::copy_columns;
-use point_rows::FIRST_POINT;
+use point_rows::row_of;
 
 // The number of rows kept, and of additions made.
 pub struct Taken {
@@ -18,19 +20,14 @@ pub struct Taken {
     pub additions: u32,
 }
 
-// The first `columns` columns of row `from` are taken: what is left of them is kept if it is not zero.
-pub fn take_row(
-    ws: &mut [u64],
-    pivots: &mut [u16],
-    kept: usize,
-    from: usize,
-    columns: usize,
-) -> Taken
-    requires { ⌜ (length (now ws) ≡ 8192) × (length (now pivots) ≡ 512) × (kept < 512) × (from < 1024) × Pivots (now pivots) (unpacked (now ws)) kept ⌝ }
-    ensures { λ r. ⌜ Takes (unpacked (now (ws .entry))) (unpacked (now (ws .exit))) kept (r .kept) (cut columns (rowOf (unpacked (now (ws .entry))) from)) (r .additions) ⌝ }
+// The point `a` is taken: what is left of the first `columns` columns of the row in its place is kept if it is not zero.
+// A kernel for the crates above: the rows from the kept ones to 512, and the pivots past the kept ones, are scratch.
+pub fn take_row(ws: &mut [u64], pivots: &mut [u16], kept: usize, a: Point, columns: usize) -> Taken
+    requires { ⌜ (length (now ws) ≡ 8192) × (length (now pivots) ≡ 512) × (kept < 512) × (a .0 < 512) × Pivots (now pivots) (unpacked (now ws)) kept ⌝ }
+    ensures { λ r. ⌜ Takes (unpacked (now (ws .entry))) (unpacked (now (ws .exit))) kept (r .kept) (stored (unpacked (now (ws .entry))) columns (a .0)) (r .additions) ⌝ }
     ensures { λ r. ⌜ Pivots (now (pivots .exit)) (unpacked (now (ws .exit))) (r .kept) ⌝ }
 {
-    copy_columns(ws, kept, from, columns);
+    copy_columns(ws, kept, row_of(a), columns);
     let additions = reduce(ws, pivots, kept, kept);
     Taken {
         kept: keep(ws, pivots, kept),
@@ -39,7 +36,8 @@ pub fn take_row(
 }
 
 // The points of `mask` are taken, each with the first `columns` columns of the row in its place. The kept rows are then
-// the first rows of the workspace, and `pivots` has the pivot of each.
+// the first rows of the workspace, and `pivots` has the pivot of each. A kernel for the crates above, with the scratch of
+// `take_row`.
 pub fn eliminate_with(ws: &mut [u64], pivots: &mut [u16], mask: &[u8], columns: usize) -> Taken
     requires { ⌜ (length (now ws) ≡ 8192) × (length (now pivots) ≡ 512) × (length (now mask) ≡ 512) ⌝ }
     ensures { λ r. ⌜ Eliminates (unpacked (now (ws .entry))) (unpacked (now (ws .exit))) columns (points (now (mask .entry))) (r .kept) (r .additions) ⌝ }
@@ -51,7 +49,7 @@ pub fn eliminate_with(ws: &mut [u64], pivots: &mut [u16], mask: &[u8], columns: 
     let mut a: usize = 0;
     while a < POINTS {
         if mask[a] == 1 {
-            let t = take_row(ws, pivots, kept, FIRST_POINT + a, columns);
+            let t = take_row(ws, pivots, kept, Point(a as u16), columns);
             kept = t.kept;
             additions += t.additions;
         }
@@ -60,7 +58,7 @@ pub fn eliminate_with(ws: &mut [u64], pivots: &mut [u16], mask: &[u8], columns: 
     Taken { kept, additions }
 }
 
-// The same with pivots of its own.
+// The same with pivots of its own. A kernel for the crates above: the rows from the kept ones to 512 are scratch.
 pub fn eliminate(ws: &mut [u64], mask: &[u8], columns: usize) -> Taken
     requires { ⌜ (length (now ws) ≡ 8192) × (length (now mask) ≡ 512) ⌝ }
     ensures { λ r. ⌜ Eliminates (unpacked (now (ws .entry))) (unpacked (now (ws .exit))) columns (points (now (mask .entry))) (r .kept) (r .additions) ⌝ }

@@ -1,37 +1,40 @@
 // The eliminations at every number of columns at once: the rows are taken whole, and additions are counted by pivot.
 ghost use mathlib.Core.Path.{_≡_};
-ghost use Prim.Native.Nat.{_≤_, _<_};
+ghost use Prim.Native.Nat.{_+_, _≤_, _<_};
 ghost use lib.ListN.{length};
 ghost use Rattle.cube.specs.Mask.{points};
 ghost use Rattle.gf2.specs.Packed.{unpacked, rowOf, zeros, Pivots};
 ghost use Rattle.gf2.specs.Prefix.{AtMost};
 ghost use Rattle.matrix.specs.Workspace.{TakesAll, EliminatesAll};
 use cube::POINTS;
+use cube::Point;
 use gf2::COLUMNS;
 use gf2::basis::keep;
 use gf2::basis::reduce_tallied;
 use gf2::packed::copy_columns;
-use point_rows::FIRST_POINT;
+use point_rows::row_of;
 
-// Row `from` is taken: what is left of it is kept if it is not zero. The result is the number of kept rows.
+// The point `a` is taken: what is left of the row in its place is kept if it is not zero. The result is the number of kept
+// rows.
 fn take_tallied(
     ws: &mut [u64],
     pivots: &mut [u16],
     tally: &mut [u32],
     kept: usize,
-    from: usize,
+    a: Point,
 ) -> usize
-    requires { ⌜ (length (now ws) ≡ 8192) × (length (now pivots) ≡ 512) × (length (now tally) ≡ 512) × (kept < 512) × (from < 1024) × Pivots (now pivots) (unpacked (now ws)) kept × AtMost 262144 (now tally) ⌝ }
-    ensures { λ r. ⌜ TakesAll (unpacked (now (ws .entry))) (unpacked (now (ws .exit))) kept r (rowOf (unpacked (now (ws .entry))) from) (now (tally .entry)) (now (tally .exit)) ⌝ }
+    requires { ⌜ (length (now ws) ≡ 8192) × (length (now pivots) ≡ 512) × (length (now tally) ≡ 512) × (kept < 512) × (a .0 < 512) × Pivots (now pivots) (unpacked (now ws)) kept × AtMost 262144 (now tally) ⌝ }
+    ensures { λ r. ⌜ TakesAll (unpacked (now (ws .entry))) (unpacked (now (ws .exit))) kept r (rowOf (unpacked (now (ws .entry))) (512 + a .0)) (now (tally .entry)) (now (tally .exit)) ⌝ }
     ensures { λ r. ⌜ Pivots (now (pivots .exit)) (unpacked (now (ws .exit))) r ⌝ }
 {
-    copy_columns(ws, kept, from, COLUMNS);
+    copy_columns(ws, kept, row_of(a), COLUMNS);
     reduce_tallied(ws, pivots, tally, kept, kept);
     keep(ws, pivots, kept)
 }
 
 // The points of `mask` are taken, each with the row in its place. The result is the number of kept rows; `pivots` has the
-// pivot of each, and `tally`, which holds zeros at entry, the additions by pivot.
+// pivot of each, and `tally`, which holds zeros at entry, the additions by pivot. A kernel for the crates above: the rows
+// from the kept ones to 512, and the pivots past the kept ones, are scratch.
 pub fn eliminate_tallied(
     ws: &mut [u64],
     pivots: &mut [u16],
@@ -47,7 +50,7 @@ pub fn eliminate_tallied(
     let mut a: usize = 0;
     while a < POINTS {
         if mask[a] == 1 {
-            kept = take_tallied(ws, pivots, tally, kept, FIRST_POINT + a);
+            kept = take_tallied(ws, pivots, tally, kept, Point(a as u16));
         }
         a += 1;
     }

@@ -1,5 +1,5 @@
-// The rows of points: docs/SPECIFICATION.md, 'Elimination', the matrix. Each is put in its place in the workspace, with its
-// columns in an order of the exponents.
+// The rows of points: docs/SPECIFICATION.md, 'Elimination', the matrix. Each is put in its place in the workspace, with
+// its columns in an order of the exponents.
 ghost use mathlib.Core.Path.{_≡_};
 ghost use Prim.Native.Nat.{_+_, _≤_, _<_};
 ghost use lib.ListN.{length, set, take, drop};
@@ -19,10 +19,17 @@ use gf2::packed::common_row;
 use order::exponent_at;
 
 // The row of the workspace for point 0. Those of the other points follow it.
-pub const FIRST_POINT: usize = 512;
+const FIRST_POINT: usize = 512;
 
 // An exponent that lies within no point.
 const NO_EXPONENT: u16 = 65535;
+
+// The row that is the place of the point `a`; the workspace has it for points below 512. A kernel for the crates above.
+pub fn row_of(a: Point) -> usize
+    ensures { λ r. ⌜ r ≡ 512 + a .0 ⌝ }
+{
+    FIRST_POINT + a.0 as usize
+}
 
 // The exponents of `n` taps in order, then an exponent that lies within no point.
 fn exponents(order: &[u16], n: usize) -> [u16; 512]
@@ -65,11 +72,12 @@ fn row_word(exponents: &[u16; 512], from: usize, a: Point) -> u64
     w
 }
 
-// Row `row` becomes the row of the point `a`.
-fn fill_row(ws: &mut [u64], exponents: &[u16; 512], row: usize, a: Point)
-    requires { ⌜ (length (now ws) ≡ 8192) × (length (now exponents) ≡ 512) × (row < 1024) ⌝ }
-    ensures { λ _. ⌜ unpacked (now (ws .exit)) ≡ set (unpacked (now (ws .entry))) row (monomials (now (exponents .entry)) (a .0)) ⌝ }
+// The row of the point `a` is put in its place, entry by entry.
+fn fill_row(ws: &mut [u64], exponents: &[u16; 512], a: Point)
+    requires { ⌜ (length (now ws) ≡ 8192) × (length (now exponents) ≡ 512) × (a .0 < 512) ⌝ }
+    ensures { λ _. ⌜ unpacked (now (ws .exit)) ≡ set (unpacked (now (ws .entry))) (512 + a .0) (monomials (now (exponents .entry)) (a .0)) ⌝ }
 {
+    let row = row_of(a);
     let mut k: usize = 0;
     while k < ROW_WORDS {
         let i = row * ROW_WORDS + k;
@@ -80,40 +88,42 @@ fn fill_row(ws: &mut [u64], exponents: &[u16; 512], row: usize, a: Point)
 
 // Two points whose common bits are a third.
 struct Pair {
-    p: usize,
-    q: usize,
+    p: Point,
+    q: Point,
 }
 
 // The high bits of the point `a` with all low ones, and all high ones with its low bits.
-fn split_point(n: usize, a: usize) -> Pair
-    requires { ⌜ (n ≤ 9) × (a < sizeOf n) ⌝ }
-    ensures { λ r. ⌜ Splits n a (r .p) (r .q) ⌝ }
+fn split_point(n: usize, a: Point) -> Pair
+    requires { ⌜ (n ≤ 9) × (a .0 < sizeOf n) ⌝ }
+    ensures { λ r. ⌜ Splits n (a .0) (r .p .0) (r .q .0) ⌝ }
 {
+    let bits = a.0 as usize;
     let low = size(n / 2);
-    let l = a & (low - 1);
+    let l = bits & (low - 1);
     Pair {
-        p: a - l + (low - 1),
-        q: size(n) - low + l,
+        p: Point((bits - l + (low - 1)) as u16),
+        q: Point((size(n) - low + l) as u16),
     }
 }
 
 // The row of the point `a` is put in its place, where those of all points above it stand in theirs: if `a` is the common
 // bits of two of them its row is the common ones of theirs.
-fn fill_point(ws: &mut [u64], exponents: &[u16; 512], n: usize, a: usize)
-    requires { ⌜ (length (now ws) ≡ 8192) × (length (now exponents) ≡ 512) × (n ≤ 9) × (a < sizeOf n) × RowsFrom (now exponents) n (unpacked (now ws)) (a + 1) ⌝ }
-    ensures { λ _. ⌜ unpacked (now (ws .exit)) ≡ set (unpacked (now (ws .entry))) (512 + a) (monomials (now (exponents .entry)) a) ⌝ }
+fn fill_point(ws: &mut [u64], exponents: &[u16; 512], n: usize, a: Point)
+    requires { ⌜ (length (now ws) ≡ 8192) × (length (now exponents) ≡ 512) × (n ≤ 9) × (a .0 < sizeOf n) × RowsFrom (now exponents) n (unpacked (now ws)) (a .0 + 1) ⌝ }
+    ensures { λ _. ⌜ unpacked (now (ws .exit)) ≡ set (unpacked (now (ws .entry))) (512 + a .0) (monomials (now (exponents .entry)) (a .0)) ⌝ }
 {
     let s = split_point(n, a);
-    if a < s.p {
-        if a < s.q {
-            common_row(ws, FIRST_POINT + a, FIRST_POINT + s.p, FIRST_POINT + s.q);
+    if a.0 < s.p.0 {
+        if a.0 < s.q.0 {
+            common_row(ws, row_of(a), row_of(s.p), row_of(s.q));
             return;
         }
     }
-    fill_row(ws, exponents, FIRST_POINT + a, Point(a as u16));
+    fill_row(ws, exponents, a);
 }
 
-// The row of each point of `n` taps at degree `n` is put in its place.
+// The row of each point of `n` taps at degree `n` is put in its place. A kernel for the crates above: no other row
+// changes.
 pub fn fill_rows(ws: &mut [u64], order: &[u16], n: usize)
     requires { ⌜ (length (now ws) ≡ 8192) × Graded (now order) × (n ≤ 9) ⌝ }
     ensures { λ _. ⌜ unpacked (now (ws .exit)) ≡ filled (exponentsOf (now (order .entry)) n) n (unpacked (now (ws .entry))) ⌝ }
@@ -122,6 +132,6 @@ pub fn fill_rows(ws: &mut [u64], order: &[u16], n: usize)
     let mut a = size(n);
     while 0 < a {
         a -= 1;
-        fill_point(ws, &list, n, a);
+        fill_point(ws, &list, n, Point(a as u16));
     }
 }

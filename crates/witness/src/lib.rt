@@ -15,6 +15,7 @@ ghost use Rattle.gf2.specs.Packed.{unpack, unpacked, zeros, Pivots};
 ghost use Rattle.point_rows.specs.Workspace.{exponents, RowsFrom};
 ghost use Rattle.witness.specs.NewRow.{FindsNew};
 use cube::POINTS;
+use cube::Point;
 use cube::size;
 use gf2::COLUMNS;
 use gf2::solve::entry_at;
@@ -24,7 +25,6 @@ use matrix::elimination::take_row;
 use order::columns::column_count;
 use order::columns::is_column;
 use order::exponent_at;
-use point_rows::FIRST_POINT;
 
 // Every byte becomes zero.
 fn clear_bytes(bytes: &mut [u8])
@@ -67,7 +67,7 @@ fn keep_new(ws: &mut [u64], pivots: &mut [u16], set: &[u8], kept: usize, columns
     let mut a: usize = 0;
     while a < POINTS {
         if set[a] == 1 {
-            let t = take_row(ws, pivots, kept, FIRST_POINT + a, columns);
+            let t = take_row(ws, pivots, kept, Point(a as u16), columns);
             if kept < t.kept {
                 return t.kept;
             }
@@ -107,7 +107,8 @@ fn write_witness(
     }
 }
 
-// The same, where `differs` tells whether some row of the set is no sum of rows of the part.
+// The same, where `differs` tells whether some row of the set is no sum of rows of the part. A kernel for the crates above:
+// the first 512 rows are scratch.
 pub fn write_side(
     ws: &mut [u64],
     order: &[u16],

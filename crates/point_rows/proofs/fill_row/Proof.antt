@@ -1,5 +1,6 @@
 -- The loop's invariant: the first k numbers of the row are those of the point's packed monomials, all else is unchanged; unpack-pack ends it.
-use mathlib.Core.Path.{_≡_, sym, ap, _∙_}
+use borrow.Author.Needs.{needs}
+use mathlib.Core.Path.{_≡_, sym, ap, ap₂, _∙_}
 use mathlib.Core.Bool.{Bool}
 use mathlib.Core.List.{List}
 use Prim.Native.Nat.{ℕ, _-_, _*_, _<_, _≤_}
@@ -20,23 +21,23 @@ abbrev numbers : List ℕ → ℕ → List ℕ
 numbers us a = pack 8 (monomials us a)
 
 abbrev Inv-loop : tie.InvT-loop
-Inv-loop ws₀ exponents row a k₀ ws k = (k ≤ 8) × (length ws ≡ 8192) × (ws ≡ paste ws₀ (row * 8) (numbers exponents (a .0)) k)
+Inv-loop ws₀ exponents a row k₀ ws k = (k ≤ 8) × (length ws ≡ 8192) × (ws ≡ paste ws₀ (row * 8) (numbers exponents (a .0)) k)
 
 abbrev μ-loop : tie.MeasureT-loop
-μ-loop ws₀ exponents row a k₀ ws k = 8 - k
+μ-loop ws₀ exponents a row k₀ ws k = 8 - k
 
 loop-holds : tie.Need-loop-holds Inv-loop μ-loop
 loop-holds c =
-    let s = c .before in
-    (omega arith, s .pre .0, paste-zero (s .args .ws .now) (s .args .row * 8) (numbers (s .args .exponents .now) (s .args .a .0)))
+    let s = c .before .before in
+    (omega arith, s .pre .0, paste-zero (s .args .ws .now) (c .row-of .result * 8) (numbers (s .args .exponents .now) (s .args .a .0)))
 
 row-word-requires : tie.Need-row-word-requires Inv-loop μ-loop
-row-word-requires c κs = (c .before .before .before .pre .1, omega arith)
+row-word-requires c κs = (c .before .before .before .before .pre .1, omega arith)
 
 loop-again : tie.Need-loop-again Inv-loop μ-loop
 loop-again c =
     let l = c .before .before in
-    let s = l .before .before in
+    let s = l .before .before .before in
     let xs = s .args .exponents .now in
     let f : ℕ → Bool = λ u. within u (s .args .a .0) in
     let k = l .loop .k in
@@ -46,18 +47,18 @@ loop-again c =
     c .row-word .ensures ∙ ap number (map-take f 64 (drop (k * 64) xs) ∙ ap (take 64) (map-drop f (k * 64) xs)) ∙ sym (pack-at 8 (monomials xs (s .args .a .0)) k h) in (
       omega arith,
       simp length-set (l .loop .inv .1),
-      paste-turn (s .args .ws .now) (s .args .row * 8) (numbers xs (s .args .a .0)) (l .loop .ws) k _ (l .loop .inv .2) x (omega arith) (omega arith),
+      paste-turn (s .args .ws .now) (l .before .row-of .result * 8) (numbers xs (s .args .a .0)) (l .loop .ws) k _ (l .loop .inv .2) x (omega arith) (omega arith),
     )
 
 returns : tie.Need-returns Inv-loop μ-loop
 returns c =
     let l = c .before in
-    let s = l .before .before in
+    let s = l .before .before .before in
     let xs = s .args .exponents .now in
     let a = s .args .a .0 in
     let n : length (monomials xs a) ≡ 8 * 64 = length-map xs (λ u. within u a) ∙ s .pre .1 in
-    paste-done (s .args .ws .now) (s .args .row) (numbers xs a) (l .loop .ws) (l .loop .k) (l .loop .inv .2) (omega arith) (s .pre .2) (s .pre .0) (length-pack 8 (monomials xs a))
-    ∙ ap (set (unpacked (s .args .ws .now)) (s .args .row)) (unpack-pack 8 (monomials xs a) n)
+    paste-done (s .args .ws .now) (l .before .row-of .result) (numbers xs a) (l .loop .ws) (l .loop .k) (l .loop .inv .2) (omega arith) (omega arith) (s .pre .0) (length-pack 8 (monomials xs a))
+    ∙ ap₂ (set (unpacked (s .args .ws .now))) (l .before .row-of .ensures) (unpack-pack 8 (monomials xs a) n)
 
 pub fill-row-spec : {M : Type 1} → statement M
 fill-row-spec =
@@ -65,6 +66,7 @@ fill-row-spec =
     (tie.spec
     Inv-loop
     μ-loop
+    (λ c κs. search needs)
     loop-holds
     (λ c. omega arith)
     (λ c. omega arith)

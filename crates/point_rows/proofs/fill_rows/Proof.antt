@@ -4,6 +4,7 @@ use mathlib.Core.Path.{_≡_, sym, ap, _∙_}
 use Prim.Native.Nat.{_+_, _-_, _≤_}
 use native.Mathlib.Omega.{arith}
 use lib.ListN.{length}
+use lib.Pow.{pow-mono}
 use Rattle.cube.specs.Cube.{size}
 use Rattle.gf2.specs.Packed.{unpacked, rowOf}
 use Rattle.gf2.proofs.Rows.{length-rows}
@@ -82,6 +83,7 @@ fill-rows-spec =
     (λ c κs. search needs)
     loop-holds
     (λ c. omega arith)
+    (λ c. omega (arith, pow-mono (c .before .before .before .before .before .before .before .before .pre .2)))
     fill-point-requires
     (λ c. omega arith)
     loop-again

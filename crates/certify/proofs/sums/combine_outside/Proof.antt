@@ -104,6 +104,7 @@ combine-outside-spec =
     Inv-loop
     μ-loop
     loop-holds
+    (λ c. omega arith)
     is-outside-requires
     combine-point-requires
     (λ c. omega arith)

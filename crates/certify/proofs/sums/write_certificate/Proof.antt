@@ -26,7 +26,7 @@ loop-holds c = (c .before .before .before .before .pre .3, omega arith, below-no
 certificate-word-requires : tie.Need-certificate-word-requires Inv-loop μ-loop
 certificate-word-requires c κs =
     let s = c .before .before .before .before .before .before in
-    (s .pre .0, s .pre .1, s .pre .2, omega arith)
+    (s .pre .0, s .pre .1, s .pre .2, omega arith, omega arith)
 
 loop-again : tie.Need-loop-again Inv-loop μ-loop
 loop-again c =
@@ -53,6 +53,7 @@ write-certificate-spec =
     Inv-loop
     μ-loop
     loop-holds
+    (λ c. omega arith)
     certificate-word-requires
     (λ c. omega arith)
     (λ c. omega arith)

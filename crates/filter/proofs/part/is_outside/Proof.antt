@@ -11,18 +11,21 @@ use Rattle.filter.proofs.part.is_outside.Tie as tie
 returns : tie.Need-returns
 returns c =
     let t = c .before in
-    let a = t .before .before .args in
-    sym (outside-marked (a .set .now) (a .part .now) (a .a) ∙ ap (λ b. b && not (member (a .part .now) (a .a))) (eq-eqb (getD (a .set .now) (a .a) 0) 1 (t .if1 .taken)))
+    let s = t .before .before .before .args in
+    let a = s .a .0 in
+    sym (outside-marked (s .set .now) (s .part .now) a ∙ ap (λ b. b && not (member (s .part .now) a)) (eq-eqb (getD (s .set .now) a 0) 1 (t .if1 .taken)))
 
 returns-2 : tie.Need-returns-2
 returns-2 c =
-    let a = c .before .before .args in
-    sym (outside-marked (a .set .now) (a .part .now) (a .a) ∙ ap (λ b. b && not (member (a .part .now) (a .a))) (ne-eqb (getD (a .set .now) (a .a) 0) 1 (c .if1 .left)))
+    let s = c .before .before .before .args in
+    let a = s .a .0 in
+    sym (outside-marked (s .set .now) (s .part .now) a ∙ ap (λ b. b && not (member (s .part .now) a)) (ne-eqb (getD (s .set .now) a 0) 1 (c .if1 .left)))
 
 pub is-outside-spec : {M : Type 1} → statement M
 is-outside-spec =
     tie.close
     (tie.spec
+    (λ c. search needs)
     (λ c. search needs)
     (λ c. search needs)
     returns

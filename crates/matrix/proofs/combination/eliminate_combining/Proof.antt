@@ -120,6 +120,7 @@ eliminate-combining-spec =
     μ-loop
     loop-holds
     (λ c. omega arith)
+    (λ c. omega arith)
     take-combining-requires
     (λ c. omega arith)
     (λ c. omega arith)
