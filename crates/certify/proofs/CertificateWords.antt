@@ -9,8 +9,9 @@ use native.Mathlib.Omega.{arith}
 use lib.ListN.{length, getD, take, drop}
 use lib.Seq.{drop-nil}
 use Rattle.cube.specs.Mask.{points}
-use Rattle.gf2.specs.Packed.{unpacked, rowOf, number}
-use Rattle.gf2.proofs.Packing.{row-word}
+use Rattle.gf2.specs.Steps.{rowOf}
+use Rattle.packed.specs.Packed.{unpacked, number}
+use Rattle.packed.proofs.Packing.{row-word}
 use Rattle.immunity.specs.Certificate.{rowIf}
 use Rattle.filter.specs.Outside.{isOutside}
 use Rattle.certify.specs.Sums.{outsideRow, wordOf}

@@ -16,9 +16,11 @@ use Rattle.order.specs.Order.{Graded, columns}
 use Rattle.cube.proofs.Masks.{member-from}
 use Rattle.gf2.specs.Vector.{Row, add, total, chosen}
 use Rattle.gf2.specs.Elimination.{Reduced, reduce, Elimination}
-use Rattle.gf2.specs.Packed.{rowOf, zeroRow, cut, padded, number}
+use Rattle.gf2.specs.Cut.{zeroRow, cut, padded}
+use Rattle.gf2.specs.Steps.{rowOf}
+use Rattle.packed.specs.Packed.{number}
 use Rattle.gf2.proofs.Each.{member-each, map-each}
-use Rattle.gf2.proofs.Packing.{number-padded}
+use Rattle.packed.proofs.Packing.{number-padded}
 use Rattle.gf2.proofs.Padded.{zero-row, total-padded, reduce-padded, kept-fits}
 use Rattle.point_rows.specs.Rows.{row}
 use Rattle.point_rows.specs.Workspace.{exponents, RowsFrom, stored}

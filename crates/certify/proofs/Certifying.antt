@@ -27,7 +27,7 @@ use Rattle.cube.proofs.Listed.{length-select}
 use Rattle.cube.proofs.Masks.{length-from, points-inside}
 use Rattle.order.specs.Order.{Graded, columns}
 use Rattle.gf2.specs.Vector.{Row}
-use Rattle.gf2.specs.Packed.{zeros}
+use Rattle.packed.specs.Packed.{zeros}
 use Rattle.filter.specs.Filter.{Filter}
 use Rattle.filter.specs.Part.{part}
 use Rattle.filter.proofs.Filters.{few-taps}

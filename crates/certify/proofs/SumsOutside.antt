@@ -11,7 +11,8 @@ use native.Mathlib.Omega.{arith}
 use lib.ListN.{length, take}
 use Rattle.gf2.specs.Vector.{Row, add, total, chosen}
 use Rattle.gf2.specs.Elimination.{Reduced, reduce}
-use Rattle.gf2.specs.Packed.{rowOf, cut, zeroRow, Places}
+use Rattle.gf2.specs.Cut.{cut, zeroRow}
+use Rattle.gf2.specs.Steps.{rowOf, Places}
 use Rattle.point_rows.specs.Workspace.{stored}
 use Rattle.matrix.specs.Combination.{followed}
 use Rattle.cube.specs.Mask.{points}

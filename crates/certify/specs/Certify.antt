@@ -16,7 +16,7 @@ use lib.ListN.{length}
 use Rattle.refusal.specs.Refusal.{numberOf}
 use Rattle.refusal.specs.Outcome.{Outcome, refused, accepted, Check, _otherwise_, checked, leftBy}
 use Rattle.refusal.specs.declared.Refusal.the-variants.{RanksDiffer}
-use Rattle.gf2.specs.Packed.{zeros}
+use Rattle.packed.specs.Packed.{zeros}
 use Rattle.filter.specs.Checks.{lengthIs, tapsOf, degreeUpTo, sideUpTo1, filterLengths, filterMasks}
 use Rattle.immunity.specs.Judgement.{differs}
 use Rattle.immunity.specs.Certificate.{certificate}

@@ -13,7 +13,9 @@ use Rattle.cube.specs.NumberLists.{below}
 use Rattle.cube.specs.Mask.{points}
 use Rattle.gf2.specs.Vector.{Row, add, total, chosen}
 use Rattle.gf2.specs.Elimination.{reduce}
-use Rattle.gf2.specs.Packed.{rowOf, zeroRow, number}
+use Rattle.gf2.specs.Cut.{zeroRow}
+use Rattle.gf2.specs.Steps.{rowOf}
+use Rattle.packed.specs.Packed.{number}
 use Rattle.point_rows.specs.Workspace.{stored}
 use Rattle.immunity.specs.Certificate.{rowIf, numberAt}
 use Rattle.filter.specs.Outside.{isOutside}

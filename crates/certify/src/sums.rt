@@ -3,16 +3,18 @@ ghost use mathlib.Core.Path.{_≡_};
 ghost use Prim.Native.Nat.{_<_, _+_, _≤_};
 ghost use lib.ListN.{length, set};
 ghost use Rattle.cube.specs.Mask.{points};
-ghost use Rattle.gf2.specs.Packed.{unpacked, zeroRow, Pivots, Places};
+ghost use Rattle.gf2.specs.Cut.{zeroRow};
+ghost use Rattle.gf2.specs.Steps.{Pivots, Places};
+ghost use Rattle.packed.specs.Packed.{unpacked};
 ghost use Rattle.certify.specs.Sums.{outsideRow, wordOf, written, Sums};
 ghost use Rattle.matrix.specs.Combination.{followed, OutsidePlaces};
 use crate::CERTIFICATE;
 use cube::POINTS;
 use cube::Point;
 use filter::part::is_outside;
-use gf2::ROW_WORDS;
-use gf2::basis::reduce_both;
 use matrix::combination::move_row;
+use packed::ROW_WORDS;
+use packed::basis::reduce_both;
 use point_rows::row_of;
 
 // The sum of the combinations of the rows that are added to the row of the point `a` is put in its place.

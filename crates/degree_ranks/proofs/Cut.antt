@@ -17,7 +17,8 @@ use Rattle.cube.proofs.Masks.{member-from, length-from, value-at}
 use Rattle.order.specs.Order.{Graded, columns}
 use Rattle.order.proofs.DegreeColumns.{length-columns}
 use Rattle.gf2.specs.Elimination.{Elimination, eliminate}
-use Rattle.gf2.specs.Packed.{unpacked, padded}
+use Rattle.gf2.specs.Cut.{padded}
+use Rattle.packed.specs.Packed.{unpacked}
 use Rattle.gf2.specs.Prefix.{AtMost}
 use Rattle.gf2.proofs.Each.{member-each, map-each}
 use Rattle.gf2.proofs.Padded.{widened}

@@ -4,7 +4,7 @@ use mathlib.Core.Path.{_≡_, _∙_}
 use mathlib.Core.List.{List}
 use Prim.Native.Nat.{ℕ}
 use lib.ListN.{length, drop}
-use Rattle.gf2.specs.Packed.{unpacked}
+use Rattle.packed.specs.Packed.{unpacked}
 use Rattle.point_rows.specs.Workspace.{exponents}
 use Rattle.point_rows.proofs.Stored.{stays-rows}
 use Rattle.degree_ranks.specs.Ready.{Ready}

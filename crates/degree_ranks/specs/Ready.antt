@@ -9,7 +9,7 @@ use Rattle.cube.specs.NumberLists.{Inside}
 use Rattle.cube.specs.Cube.{size}
 use Rattle.cube.specs.Mask.{points}
 use Rattle.order.specs.Order.{Graded}
-use Rattle.gf2.specs.Packed.{unpacked}
+use Rattle.packed.specs.Packed.{unpacked}
 use Rattle.point_rows.specs.Workspace.{exponents, RowsFrom}
 
 -- the row of each point of n taps is in its place, with its columns in a graded order

@@ -8,7 +8,7 @@ ghost use lib.ListN.{length, getD, drop};
 ghost use Rattle.cube.specs.NumberLists.{below};
 ghost use Rattle.cube.specs.Mask.{points, byte};
 ghost use Rattle.order.specs.Order.{Graded};
-ghost use Rattle.gf2.specs.Packed.{unpacked};
+ghost use Rattle.packed.specs.Packed.{unpacked};
 ghost use Rattle.gf2.specs.Prefix.{AtMost};
 ghost use Rattle.filter.specs.Sides.{pair};
 ghost use Rattle.immunity.specs.First.{first};
@@ -16,12 +16,12 @@ ghost use Rattle.immunity.specs.Judgement.{summed};
 ghost use Rattle.immunity.specs.Ranks.{noRanks, ranksIn, ranksUpTo, additionsOf, partDiffers, differ};
 ghost use Rattle.degree_ranks.specs.Cut.{upTo, columnCounts, rankCut, additionsCut};
 ghost use Rattle.degree_ranks.specs.Ready.{Ready, Marks};
-use gf2::COLUMNS;
-use gf2::basis::count_below;
-use gf2::basis::sum_below;
 use immunity::Ranks;
 use matrix::tally::eliminate_tallied;
 use order::columns::column_count;
+use packed::COLUMNS;
+use packed::basis::count_below;
+use packed::basis::sum_below;
 
 // The number of degrees of nine taps.
 pub const DEGREES: usize = 10;

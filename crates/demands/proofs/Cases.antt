@@ -10,7 +10,7 @@ use Rattle.order.specs.BuiltIn.{graded}
 use Rattle.gf2.specs.Vector.{add, total, dot, unit, chosen}
 use Rattle.gf2.specs.Elimination.{pivot, isZero, count, addIf, reduce, keepUnless, takePoint, takePoints}
 use Rattle.gf2.specs.Solve.{flip, solve}
-use Rattle.gf2.specs.Packed.{number}
+use Rattle.packed.specs.Packed.{number}
 use Rattle.polynomial.specs.Polynomial.{sumBelow, value}
 use Rattle.polynomial.specs.Convert.{values, converted, convertOutcome, convertLeaves}
 use Rattle.polynomial.specs.Degree.{largest, degreeOutcome}

@@ -15,7 +15,7 @@ use Rattle.cube.specs.Mask.{mask}
 use Rattle.order.specs.BuiltIn.{graded}
 use Rattle.refusal.specs.Outcome.{Outcome, refused, accepted, left, leftBy}
 use Rattle.refusal.proofs.Outcomes.{not-both}
-use Rattle.gf2.specs.Packed.{zeros}
+use Rattle.packed.specs.Packed.{zeros}
 use Rattle.polynomial.specs.Convert.{converted, convertLeaves}
 use Rattle.filter_file.specs.File.{Contents, contents, encode, Valid}
 use Rattle.varint.specs.Varint.{Bytes}

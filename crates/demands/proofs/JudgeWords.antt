@@ -24,7 +24,7 @@ use Rattle.refusal.specs.Outcome.{refused, accepted, checked}
 use Rattle.refusal.proofs.Outcomes.{not-both}
 use Rattle.polynomial.specs.Polynomial.{Polynomial}
 use Rattle.gf2.specs.Vector.{Row, chosen, SumOf}
-use Rattle.gf2.specs.Packed.{zeros}
+use Rattle.packed.specs.Packed.{zeros}
 use Rattle.gf2.proofs.Bits.{not-one}
 use Rattle.gf2.proofs.Each.{each-member, chosen-among}
 use Rattle.point_rows.specs.Rows.{row, rows}

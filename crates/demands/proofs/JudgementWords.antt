@@ -3,7 +3,7 @@
 use mathlib.Core.Path.{ap, _∙_}
 use lib.ListN.{length, replicate}
 use Rattle.refusal.specs.Outcome.{left, leftBy}
-use Rattle.gf2.specs.Packed.{zeros}
+use Rattle.packed.specs.Packed.{zeros}
 use Rattle.immunity.specs.Ranks.{noRanks}
 use Rattle.certify.specs.Certify.{clearedUnless}
 use Rattle.demands.specs.JudgementWords.{JudgementWords}

@@ -25,7 +25,7 @@ use Rattle.order.proofs.BuiltIn.{graded-is-graded}
 use Rattle.order.proofs.DegreeColumns.{member-columns}
 use Rattle.order.proofs.ColumnOrder.{columns-ordered}
 use Rattle.gf2.specs.Elimination.{Elimination, takePoints}
-use Rattle.gf2.specs.Packed.{zeros}
+use Rattle.packed.specs.Packed.{zeros}
 use Rattle.gf2.proofs.Sums.{sum-zero, sum-of-none}
 use Rattle.gf2.proofs.Columns.{entry-map}
 use Rattle.matrix.specs.Matrix.{eliminated}

@@ -21,7 +21,7 @@ use Rattle.polynomial.specs.Polynomial.{Polynomial, value, UpTo, HasDegree}
 use Rattle.polynomial.specs.declared.convert.ConvertAnswer.{ConvertAnswer}
 use Rattle.polynomial.specs.Convert.{convertOutcome, convertLeaves, ConvertContract}
 use Rattle.gf2.specs.Rank.{Rank}
-use Rattle.gf2.specs.Packed.{zeros}
+use Rattle.packed.specs.Packed.{zeros}
 use Rattle.matrix.specs.declared.rank.Ranked.{Ranked}
 use Rattle.point_rows.specs.Rows.{rows}
 use Rattle.matrix.specs.Matrix.{eliminated}

@@ -31,7 +31,7 @@ use Rattle.gf2.specs.Rank.{Rank}
 use Rattle.gf2.specs.Elimination.{Elimination}
 use Rattle.gf2.specs.Points.{Rising}
 use Rattle.gf2.specs.Meeting.{Step, KeptPoint}
-use Rattle.gf2.specs.Packed.{zeros}
+use Rattle.packed.specs.Packed.{zeros}
 use Rattle.point_rows.specs.Rows.{row, rows}
 use Rattle.matrix.specs.Matrix.{eliminated}
 use Rattle.matrix.specs.declared.rank.Ranked.{Ranked}

@@ -16,7 +16,7 @@ use Rattle.cube.specs.Mask.{mask}
 use Rattle.refusal.specs.Outcome.{Outcome, accepted, left, leftBy}
 use Rattle.filter_file.specs.File.{Contents}
 use Rattle.matrix.specs.declared.rank.Ranked.{Ranked}
-use Rattle.gf2.specs.Packed.{zeros}
+use Rattle.packed.specs.Packed.{zeros}
 use Rattle.filter.specs.Sides.{Sides}
 use Rattle.immunity.specs.Judgement.{Judgement}
 use Rattle.certify.specs.Certify.{clearedUnless}

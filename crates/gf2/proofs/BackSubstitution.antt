@@ -23,7 +23,7 @@ use native.Mathlib.Omega.{arith}
 use lib.ListN.{length, replicate, length-append, length-replicate, length-map}
 use Rattle.gf2.specs.Vector.{Row, entry, add, dot, unit, Zero, Same, OnlyAt, Each, Orthogonal, Separates}
 use Rattle.gf2.specs.Elimination.{pivot, Echelon}
-use Rattle.gf2.specs.Packed.{padded}
+use Rattle.gf2.specs.Cut.{padded}
 use Rattle.gf2.specs.Solve.{flip, solve, solveLast}
 use Rattle.gf2.proofs.Bits.{bits, xor-false, false-xor, xor-self, xor-equal, xor-true, not-one}
 use Rattle.gf2.proofs.Each.{each-map, each-map₂, each-append, map-each}

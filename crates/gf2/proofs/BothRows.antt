@@ -17,7 +17,7 @@ use lib.ListN.{length, getD, set, take, length-map}
 use lib.Seq.{lt-length-set, take-suc, set-set, set-comm, set-getD, getD-set-same, getD-set-other, take-set-le, length-take-le}
 use Rattle.gf2.specs.Vector.{Row, entry, add, total, chosen}
 use Rattle.gf2.specs.Elimination.{Reduced, pivot, addIf, reduce}
-use Rattle.gf2.specs.Packed.{rowOf, Places, reducedBoth}
+use Rattle.gf2.specs.Steps.{rowOf, Places, reducedBoth}
 use Rattle.gf2.proofs.Each.{each-taken, map-each}
 use Rattle.gf2.proofs.Dot.{add-nil, add-assoc}
 use Rattle.gf2.proofs.Chosen.{total-snoc}

@@ -1,4 +1,4 @@
--- Laws of linear algebra over the field of two elements, and of rows packed into numbers.
+-- Laws of linear algebra over the field of two elements.
 pub mod Bits
 pub mod Each
 pub mod Dot
@@ -20,15 +20,6 @@ pub mod Columns
 pub mod Meeting
 pub mod Witness
 pub mod Padded
-pub mod Bitwise
-pub mod Words
-pub mod Parity
-pub mod Clearing
-pub mod Cuts
-pub mod Packing
-pub mod Rows
-pub mod Joined
 pub mod Steps
 pub mod BothRows
 pub mod Prefix
-pub mod Tally

@@ -24,7 +24,7 @@ use native.Mathlib.Omega.{arith}
 use lib.ListN.{length, set, take, replicate}
 use Rattle.gf2.specs.Vector.{Row, entry, add, total, unit, Each, Choice, chosen}
 use Rattle.gf2.specs.Elimination.{pivot, isZero, Reduced, addIf, reduce, Elimination, nothing, keepUnless, takePoint, takePoints, eliminate}
-use Rattle.gf2.specs.Packed.{zeroRow, cut, padded}
+use Rattle.gf2.specs.Cut.{zeroRow, cut, padded}
 use Rattle.gf2.proofs.Bits.{xor-self, xor-false, false-xor}
 use Rattle.gf2.proofs.Each.{each-append}
 use Rattle.gf2.proofs.Dot.{add-nil, add-assoc}

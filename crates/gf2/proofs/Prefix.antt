@@ -19,7 +19,8 @@ use borrow.Author.Tests.{lt-ltb, le-ltb}
 use lib.ListN.{length, take}
 use Rattle.gf2.specs.Vector.{Row, entry, add, Each}
 use Rattle.gf2.specs.Elimination.{pivot, isZero, reduce, addIf, keepUnless}
-use Rattle.gf2.specs.Packed.{cut, Pivots}
+use Rattle.gf2.specs.Cut.{cut}
+use Rattle.gf2.specs.Steps.{Pivots}
 use Rattle.gf2.specs.Prefix.{consUnless, keptTo, countTo}
 use Rattle.gf2.proofs.Bits.{xor-false, xor-self}
 

@@ -23,7 +23,7 @@ use lib.ListN.{length, getD, set, take}
 use lib.Seq.{take-suc, set-set, set-getD, getD-set-same, getD-set-other, take-set-le, take-suc-set, getD-take}
 use Rattle.gf2.specs.Vector.{Row, entry}
 use Rattle.gf2.specs.Elimination.{Reduced, pivot, isZero, count, reduce, addIf, keepUnless}
-use Rattle.gf2.specs.Packed.{rowOf, Pivots, Reduces, oneMoreUnless}
+use Rattle.gf2.specs.Steps.{rowOf, Pivots, Reduces, oneMoreUnless}
 use Rattle.gf2.proofs.Reducing.{reduce-snoc, count-append}
 
 -- a row is reduced by one row more

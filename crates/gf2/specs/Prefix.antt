@@ -11,9 +11,10 @@ use mathlib.Core.List.{List, [], _∷_}
 use Prim.Native.Nat.{ℕ, zero, suc, _+_, _≤_}
 use lib.Dec.{ltb}
 use lib.ListN.{getD, set, take}
-use Rattle.gf2.specs.Vector.{Row}
+use Rattle.gf2.specs.Vector.{Row, digit}
 use Rattle.gf2.specs.Elimination.{isZero, count, reduce}
-use Rattle.gf2.specs.Packed.{rowOf, cut, digit}
+use Rattle.gf2.specs.Cut.{cut}
+use Rattle.gf2.specs.Steps.{rowOf}
 
 -- one more at the front of a list, or none
 unfoldable pub consUnless : Bool → Row → List Row → List Row

@@ -14,6 +14,7 @@
 --   SumOf rs v         v is a sum of rows of the list rs
 --   Orthogonal x rs    x is even with each row of rs
 --   Separates rs v x   x is even with each row of rs, and odd with v
+--   digit b            1 or 0
 use mathlib.Core.Path.{_≡_}
 use mathlib.Core.Bool.{Bool, true, false, xor, _&&_}
 use mathlib.Core.List.{List, [], _∷_, List·Memᴰ}
@@ -90,3 +91,8 @@ Orthogonal x rs = Each (λ r. dot x r ≡ false) rs
 -- x is even with each row of the list, and odd with v
 abbrev pub Separates : List Row → Row → Row → Type 0
 Separates rs v x = Orthogonal x rs × (dot x v ≡ true)
+
+-- 1 or 0
+abbrev pub digit : Bool → ℕ
+digit true = 1
+digit false = 0

@@ -16,8 +16,8 @@ use lib.Seq.{getD-take, getD-drop}
 use Rattle.cube.specs.NumberLists.{below}
 use Rattle.cube.specs.Mask.{points}
 use Rattle.cube.proofs.Masks.{length-from, value-at}
-use Rattle.gf2.specs.Vector.{Row, entry, Same}
-use Rattle.gf2.specs.Packed.{digit, number}
+use Rattle.gf2.specs.Vector.{Row, entry, Same, digit}
+use Rattle.packed.specs.Packed.{number}
 use Rattle.filter.specs.Part.{part}
 use Rattle.immunity.specs.Certificate.{bitOf, named, sumIf, numberAt, certificate}
 

@@ -15,8 +15,8 @@ use Rattle.cube.specs.NumberLists.{below}
 use Rattle.cube.specs.Mask.{points}
 use Rattle.cube.proofs.Masks.{length-from, value-at}
 use Rattle.gf2.specs.Vector.{Row}
-use Rattle.gf2.specs.Packed.{odd, bitsOf, number}
-use Rattle.gf2.proofs.Packing.{number-bound, number-bits}
+use Rattle.packed.specs.Packed.{odd, bitsOf, number}
+use Rattle.packed.proofs.Packing.{number-bound, number-bits}
 use Rattle.filter.specs.Part.{part}
 use Rattle.immunity.specs.Certificate.{bitOf, IsCertificate, sumIf, numberAt, certificate}
 use Rattle.immunity.proofs.Certificates.{certificate-unique}

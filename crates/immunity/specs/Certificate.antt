@@ -21,7 +21,7 @@ use Rattle.cube.specs.Mask.{points}
 use Rattle.gf2.specs.Vector.{Row, Zero, chosen, total}
 use Rattle.gf2.specs.Elimination.{reduce}
 use Rattle.gf2.specs.Points.{Expresses}
-use Rattle.gf2.specs.Packed.{number}
+use Rattle.packed.specs.Packed.{number}
 use Rattle.point_rows.specs.Rows.{row}
 use Rattle.matrix.specs.Matrix.{eliminated}
 use Rattle.filter.specs.Part.{part}

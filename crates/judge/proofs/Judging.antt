@@ -25,7 +25,7 @@ use Rattle.cube.specs.Mask.{points, byte, mask}
 use Rattle.cube.proofs.Listed.{some-member}
 use Rattle.cube.proofs.Masks.{member-from, value-at, points-inside}
 use Rattle.order.specs.Order.{Graded}
-use Rattle.gf2.specs.Packed.{zeros}
+use Rattle.packed.specs.Packed.{zeros}
 use Rattle.gf2.specs.Points.{Rising}
 use Rattle.gf2.specs.Vector.{Each}
 use Rattle.gf2.proofs.Each.{member-each}

@@ -12,7 +12,7 @@ use Prim.Native.Nat.{ℕ}
 use lib.ListN.{length, replicate}
 use Rattle.refusal.specs.Refusal.{numberOf}
 use Rattle.refusal.specs.Outcome.{Outcome, refused, accepted, Check, checked, left, leftBy}
-use Rattle.gf2.specs.Packed.{zeros}
+use Rattle.packed.specs.Packed.{zeros}
 use Rattle.filter.specs.Sides.{Sides}
 use Rattle.filter.specs.Checks.{lengthIs, tapsOf, filterLengths, filterMasks}
 use Rattle.immunity.specs.declared.Ranks.{Ranks}

@@ -19,7 +19,8 @@ use Rattle.cube.proofs.Listed.{member-select}
 use Rattle.cube.proofs.Masks.{member-from, select-yes, select-no}
 use Rattle.gf2.specs.Vector.{Row, Each, add, total, unit, chosen}
 use Rattle.gf2.specs.Elimination.{Reduced, reduce, isZero, keepUnless, Elimination, takePoint, takePoints, eliminate}
-use Rattle.gf2.specs.Packed.{rowOf, cut, padded, Places, oneMoreUnless}
+use Rattle.gf2.specs.Cut.{cut, padded}
+use Rattle.gf2.specs.Steps.{rowOf, Places, oneMoreUnless}
 use Rattle.gf2.proofs.Each.{each-map, each-of-map, each-taken, chosen-among}
 use Rattle.gf2.proofs.Chosen.{chosen-few}
 use Rattle.gf2.proofs.Kept.{points-chosen, eliminate-snoc}

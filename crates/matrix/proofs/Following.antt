@@ -18,7 +18,8 @@ use lib.ListN.{length, set, take, length-set}
 use lib.Seq.{lt-length-set, getD-set-same, getD-set-other, set-set, take-set-le}
 use Rattle.gf2.specs.Vector.{Row, add, total, unit, chosen}
 use Rattle.gf2.specs.Elimination.{Reduced, reduce, keepUnless}
-use Rattle.gf2.specs.Packed.{rowOf, zeroRow, padded, Places, oneMoreUnless}
+use Rattle.gf2.specs.Cut.{zeroRow, padded}
+use Rattle.gf2.specs.Steps.{rowOf, Places, oneMoreUnless}
 use Rattle.gf2.proofs.Padded.{unit-padded}
 use Rattle.gf2.proofs.Steps.{kept-more}
 use Rattle.gf2.proofs.BothRows.{both-left, both-sum, both-front, both-other, places-rows}

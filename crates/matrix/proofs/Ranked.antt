@@ -23,7 +23,7 @@ use Rattle.cube.specs.Mask.{wellFormed, points}
 use Rattle.order.specs.Order.{Graded, columns}
 use Rattle.cube.proofs.Masks.{points-inside}
 use Rattle.gf2.specs.Vector.{Row}
-use Rattle.gf2.specs.Packed.{zeros}
+use Rattle.packed.specs.Packed.{zeros}
 use Rattle.point_rows.specs.Workspace.{exponents, filled, RowsFrom}
 use Rattle.point_rows.proofs.Stored.{filled-rows}
 use Rattle.matrix.specs.Workspace.{Eliminates}

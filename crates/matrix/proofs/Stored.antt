@@ -14,7 +14,7 @@ use Rattle.cube.specs.Cube.{size}
 use Rattle.order.specs.Order.{Graded, columns}
 use Rattle.gf2.specs.Vector.{Row, Each}
 use Rattle.gf2.specs.Elimination.{Elimination, nothing, eliminate}
-use Rattle.gf2.specs.Packed.{padded}
+use Rattle.gf2.specs.Cut.{padded}
 use Rattle.gf2.proofs.Each.{member-each}
 use Rattle.gf2.proofs.Padded.{widened, eliminate-padded, take-points-same}
 use Rattle.point_rows.specs.Rows.{row}

@@ -16,7 +16,8 @@ use Rattle.cube.specs.Mask.{member}
 use Rattle.cube.proofs.Masks.{select-yes, select-no}
 use Rattle.gf2.specs.Vector.{Row}
 use Rattle.gf2.specs.Elimination.{isZero, count, Reduced, reduce, keepUnless, Elimination, takePoint, takePoints, eliminate}
-use Rattle.gf2.specs.Packed.{rowOf, cut, Reduces, oneMoreUnless}
+use Rattle.gf2.specs.Cut.{cut}
+use Rattle.gf2.specs.Steps.{rowOf, Reduces, oneMoreUnless}
 use Rattle.gf2.proofs.Kept.{eliminate-snoc}
 use Rattle.gf2.proofs.Steps.{kept-more}
 use Rattle.point_rows.specs.Workspace.{stored}

@@ -17,13 +17,15 @@ use Rattle.cube.specs.Mask.{member}
 use Rattle.cube.proofs.Masks.{select-yes, select-no}
 use Rattle.gf2.specs.Vector.{Row, Each}
 use Rattle.gf2.specs.Elimination.{pivot, isZero, count, reduce, keepUnless, Elimination, takePoint, takePoints, eliminate}
-use Rattle.gf2.specs.Packed.{rowOf, zeros, cut, oneMoreUnless, Pivots}
+use Rattle.gf2.specs.Cut.{cut}
+use Rattle.gf2.specs.Steps.{rowOf, oneMoreUnless, Pivots}
+use Rattle.packed.specs.Packed.{zeros}
 use Rattle.gf2.specs.Prefix.{keptTo, countTo, sumTo, Tallies}
 use Rattle.gf2.proofs.Each.{each-taken}
 use Rattle.gf2.proofs.Reducing.{reduce-few}
 use Rattle.gf2.proofs.Kept.{eliminate-snoc}
 use Rattle.gf2.proofs.Prefix.{kept-cut, left-cut, length-kept, pivots-taken}
-use Rattle.gf2.proofs.Tally.{sum-zeros, tallies-reduces}
+use Rattle.packed.proofs.Tally.{sum-zeros, tallies-reduces}
 use Rattle.point_rows.specs.Workspace.{stored}
 use Rattle.matrix.specs.Workspace.{Takes, TakesAll, EliminatesAll}
 use Rattle.matrix.proofs.Taking.{takes, pointsTo}

@@ -10,7 +10,8 @@ use lib.ListN.{set, take}
 use Rattle.cube.specs.Mask.{member}
 use Rattle.gf2.specs.Vector.{Row}
 use Rattle.gf2.specs.Elimination.{eliminate}
-use Rattle.gf2.specs.Packed.{rowOf, padded, Places, reducedBoth}
+use Rattle.gf2.specs.Cut.{padded}
+use Rattle.gf2.specs.Steps.{rowOf, Places, reducedBoth}
 use Rattle.point_rows.specs.Workspace.{stored}
 
 -- c columns of the row of the point a are reduced by the first k rows, and its place, with the row x there, follows

@@ -12,7 +12,7 @@ use Rattle.refusal.specs.Refusal.{numberOf}
 use Rattle.refusal.specs.Outcome.{Outcome, refused, accepted, Check, checked, left}
 use Rattle.cube.specs.Mask.{points}
 use Rattle.filter.specs.Checks.{lengthIs, tapsOf, maskOf, degreeUpTo}
-use Rattle.gf2.specs.Packed.{zeros}
+use Rattle.packed.specs.Packed.{zeros}
 use Rattle.matrix.specs.Matrix.{eliminated, rankOf}
 use Rattle.matrix.specs.declared.rank.Ranked.{Ranked}
 use Rattle.matrix.specs.declared.rank.RankAnswer.{RankAnswer}

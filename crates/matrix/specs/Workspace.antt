@@ -9,7 +9,7 @@ use Prim.Native.Nat.{ℕ, _+_, _≤_}
 use lib.ListN.{getD, take, drop}
 use Rattle.gf2.specs.Vector.{Row}
 use Rattle.gf2.specs.Elimination.{isZero, count, reduce, keepUnless, eliminate}
-use Rattle.gf2.specs.Packed.{cut}
+use Rattle.gf2.specs.Cut.{cut}
 use Rattle.gf2.specs.Prefix.{keptTo, sumTo}
 use Rattle.point_rows.specs.Workspace.{stored}
 

@@ -6,16 +6,18 @@ ghost use lib.ListN.{length, set};
 ghost use Rattle.cube.specs.Mask.{points};
 ghost use Rattle.gf2.specs.Vector.{unit};
 ghost use Rattle.gf2.specs.Elimination.{isZero};
-ghost use Rattle.gf2.specs.Packed.{unpacked, rowOf, zeroRow, padded, Pivots, Places, oneMoreUnless};
+ghost use Rattle.gf2.specs.Cut.{zeroRow, padded};
+ghost use Rattle.gf2.specs.Steps.{rowOf, Pivots, Places, oneMoreUnless};
+ghost use Rattle.packed.specs.Packed.{unpacked};
 ghost use Rattle.point_rows.specs.Workspace.{stored};
 ghost use Rattle.matrix.specs.Combination.{followed, Combines, OutsidePlaces};
 use cube::POINTS;
 use cube::Point;
-use gf2::basis::keep;
-use gf2::basis::reduce_both;
-use gf2::packed::clear_row;
-use gf2::packed::copy_columns;
-use gf2::packed::set_entry;
+use packed::basis::keep;
+use packed::basis::reduce_both;
+use packed::row::clear_row;
+use packed::row::copy_columns;
+use packed::row::set_entry;
 use point_rows::row_of;
 
 // The first `columns` columns of the row of the point `a` are put behind the `kept` rows, and its place is cleared. A

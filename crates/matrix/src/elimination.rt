@@ -3,15 +3,16 @@ ghost use mathlib.Core.Path.{_≡_};
 ghost use Prim.Native.Nat.{_≤_, _<_};
 ghost use lib.ListN.{length};
 ghost use Rattle.cube.specs.Mask.{points};
-ghost use Rattle.gf2.specs.Packed.{unpacked, Pivots};
+ghost use Rattle.gf2.specs.Steps.{Pivots};
+ghost use Rattle.packed.specs.Packed.{unpacked};
 ghost use Rattle.point_rows.specs.Workspace.{stored};
 ghost use Rattle.matrix.specs.Workspace.{Takes, Eliminates};
 use cube::POINTS;
 use cube::Point;
-use gf2::COLUMNS;
-use gf2::basis::keep;
-use gf2::basis::reduce;
-use gf2::packed::copy_columns;
+use packed::COLUMNS;
+use packed::basis::keep;
+use packed::basis::reduce;
+use packed::row::copy_columns;
 use point_rows::row_of;
 
 // The number of rows kept, and of additions made.

@@ -3,15 +3,16 @@ ghost use mathlib.Core.Path.{_≡_};
 ghost use Prim.Native.Nat.{_+_, _≤_, _<_};
 ghost use lib.ListN.{length};
 ghost use Rattle.cube.specs.Mask.{points};
-ghost use Rattle.gf2.specs.Packed.{unpacked, rowOf, zeros, Pivots};
+ghost use Rattle.gf2.specs.Steps.{rowOf, Pivots};
+ghost use Rattle.packed.specs.Packed.{unpacked, zeros};
 ghost use Rattle.gf2.specs.Prefix.{AtMost};
 ghost use Rattle.matrix.specs.Workspace.{TakesAll, EliminatesAll};
 use cube::POINTS;
 use cube::Point;
-use gf2::COLUMNS;
-use gf2::basis::keep;
-use gf2::basis::reduce_tallied;
-use gf2::packed::copy_columns;
+use packed::COLUMNS;
+use packed::basis::keep;
+use packed::basis::reduce_tallied;
+use packed::row::copy_columns;
 use point_rows::row_of;
 
 // The point `a` is taken: what is left of the row in its place is kept if it is not zero. The result is the number of kept

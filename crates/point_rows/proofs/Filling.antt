@@ -17,7 +17,7 @@ use Rattle.cube.specs.NumberLists.{below}
 use Rattle.cube.specs.Cube.{size}
 use Rattle.cube.proofs.Masks.{length-from, value-at}
 use Rattle.gf2.specs.Vector.{Row}
-use Rattle.gf2.specs.Packed.{rowOf}
+use Rattle.gf2.specs.Steps.{rowOf}
 use Rattle.point_rows.specs.Rows.{monomials}
 use Rattle.point_rows.specs.Workspace.{filled, RowsFrom}
 

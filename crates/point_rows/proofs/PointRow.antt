@@ -21,7 +21,7 @@ use Rattle.cube.proofs.Bits.{within-and}
 use Rattle.cube.proofs.Listed.{length-select}
 use Rattle.order.proofs.DegreeColumns.{length-columns, columns-all, columns-prefix}
 use Rattle.gf2.specs.Vector.{Row}
-use Rattle.gf2.specs.Packed.{cut, common, padded}
+use Rattle.gf2.specs.Cut.{cut, common, padded}
 use Rattle.gf2.proofs.Each.{member-each, map-each}
 use Rattle.gf2.proofs.Padded.{append-padded, cut-padded}
 use Rattle.point_rows.specs.Rows.{monomials, row}

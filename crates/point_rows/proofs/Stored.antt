@@ -12,7 +12,7 @@ use lib.Seq.{getD-drop}
 use Rattle.cube.specs.Cube.{size}
 use Rattle.order.specs.Order.{Graded, columns}
 use Rattle.gf2.specs.Vector.{Row}
-use Rattle.gf2.specs.Packed.{cut}
+use Rattle.gf2.specs.Cut.{cut}
 use Rattle.point_rows.specs.Workspace.{exponents, filled, RowsFrom, stored}
 use Rattle.point_rows.proofs.PointRow.{wideRow, first-columns}
 use Rattle.point_rows.proofs.Filling.{filled-row}

@@ -14,7 +14,8 @@ use lib.ListN.{length, take, drop, replicate}
 use Rattle.cube.specs.NumberLists.{below, select}
 use Rattle.cube.specs.Cube.{size}
 use Rattle.gf2.specs.Vector.{Row}
-use Rattle.gf2.specs.Packed.{rowOf, cut}
+use Rattle.gf2.specs.Cut.{cut}
+use Rattle.gf2.specs.Steps.{rowOf}
 use Rattle.point_rows.specs.Rows.{monomials}
 
 -- numbers of a list, then 65535 up to 512 numbers

@@ -5,18 +5,19 @@ ghost use Prim.Native.Nat.{_+_, _≤_, _<_};
 ghost use lib.ListN.{length, set, take, drop};
 ghost use Rattle.cube.specs.Cube.{size as sizeOf};
 ghost use Rattle.order.specs.Order.{Graded};
-ghost use Rattle.gf2.specs.Packed.{unpacked, digit, number};
+ghost use Rattle.gf2.specs.Vector.{digit};
+ghost use Rattle.packed.specs.Packed.{unpacked, number};
 ghost use Rattle.point_rows.specs.Rows.{monomials};
 ghost use Rattle.point_rows.specs.Workspace.{exponents as exponentsOf, filled, RowsFrom, Splits};
 use cube::POINTS;
 use cube::Point;
 use cube::size;
 use cube::within;
-use gf2::COLUMNS;
-use gf2::ROW_WORDS;
-use gf2::WORD_BITS;
-use gf2::packed::common_row;
 use order::exponent_at;
+use packed::COLUMNS;
+use packed::ROW_WORDS;
+use packed::WORD_BITS;
+use packed::row::common_row;
 
 // The row of the workspace for point 0. Those of the other points follow it.
 const FIRST_POINT: usize = 512;

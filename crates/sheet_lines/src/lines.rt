@@ -14,11 +14,11 @@ ghost use Rattle.sheet_lines.specs.Room.{chosenRoom, refusedLineRoom, fi
 ghost use Rattle.sheet_lines.specs.Lines.{refusedLine, firstLine, rankLine, rankLines, degreeLine, sumLine, sumLines, additionsLine};
 use cube::POINTS;
 use cube::Point;
-use gf2::ROW_WORDS;
-use gf2::WORD_BITS;
 use immunity::Ranks;
 use order::exponent_at;
 use order::graded_order;
+use packed::ROW_WORDS;
+use packed::WORD_BITS;
 use text::append_decimal;
 use text::append_field;
 use text::append_heading;

@@ -16,7 +16,8 @@ use Rattle.cube.specs.Mask.{points}
 use Rattle.cube.proofs.Masks.{markedFrom, marked-all, marked-here, marked-later, marked-none}
 use Rattle.gf2.specs.Vector.{Row}
 use Rattle.gf2.specs.Elimination.{isZero, reduce, keepUnless}
-use Rattle.gf2.specs.Packed.{rowOf, cut, oneMoreUnless}
+use Rattle.gf2.specs.Cut.{cut}
+use Rattle.gf2.specs.Steps.{rowOf, oneMoreUnless}
 use Rattle.point_rows.specs.Workspace.{stored}
 use Rattle.matrix.specs.Workspace.{Takes}
 use Rattle.immunity.specs.First.{firstIf, first}

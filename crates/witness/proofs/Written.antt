@@ -19,7 +19,9 @@ use Rattle.order.specs.Order.{Graded, columns}
 use Rattle.cube.proofs.MaskOf.{with-ones-mask}
 use Rattle.gf2.specs.Vector.{Row, Same, Each, chosen}
 use Rattle.gf2.specs.Elimination.{Reduced, isZero, reduce}
-use Rattle.gf2.specs.Packed.{rowOf, padded, zeros}
+use Rattle.gf2.specs.Cut.{padded}
+use Rattle.gf2.specs.Steps.{rowOf}
+use Rattle.packed.specs.Packed.{zeros}
 use Rattle.gf2.specs.Solve.{solveLast, witness}
 use Rattle.gf2.proofs.Each.{member-each, each-map, each-append}
 use Rattle.gf2.proofs.Chosen.{chosen-same}

@@ -11,20 +11,21 @@ ghost use Rattle.cube.specs.NumberLists.{Inside};
 ghost use Rattle.cube.specs.Cube.{size as sizeOf};
 ghost use Rattle.order.specs.Order.{Graded, columns as columnsOf};
 ghost use Rattle.gf2.specs.Vector.{chosen};
-ghost use Rattle.gf2.specs.Packed.{unpack, unpacked, zeros, Pivots};
+ghost use Rattle.gf2.specs.Steps.{Pivots};
+ghost use Rattle.packed.specs.Packed.{unpack, unpacked, zeros};
 ghost use Rattle.point_rows.specs.Workspace.{exponents, RowsFrom};
 ghost use Rattle.witness.specs.NewRow.{FindsNew};
 use cube::POINTS;
 use cube::Point;
 use cube::size;
-use gf2::COLUMNS;
-use gf2::solve::entry_at;
-use gf2::solve::solve_last;
 use matrix::elimination::eliminate_with;
 use matrix::elimination::take_row;
 use order::columns::column_count;
 use order::columns::is_column;
 use order::exponent_at;
+use packed::COLUMNS;
+use packed::solve::entry_at;
+use packed::solve::solve_last;
 
 // Every byte becomes zero.
 fn clear_bytes(bytes: &mut [u8])

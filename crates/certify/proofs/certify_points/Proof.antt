@@ -3,8 +3,8 @@ use borrow.Author.Needs.{needs}
 use mathlib.Core.Path.{_≡_, refl, sym, ap, _∙_}
 use Prim.Native.Nat.{ℕ, _≤_}
 use lib.ListN.{length, length-replicate}
-use Rattle.gf2.specs.Packed.{unpacked, zeros}
-use Rattle.gf2.proofs.Rows.{length-rows}
+use Rattle.packed.specs.Packed.{unpacked, zeros}
+use Rattle.packed.proofs.Rows.{length-rows}
 use Rattle.filter.proofs.Filters.{few-taps}
 use Rattle.certify.proofs.Compared.{Passes, certify-passed}
 use Rattle.certify.proofs.Certifying.{Found, found, ranks-differ, accepts}

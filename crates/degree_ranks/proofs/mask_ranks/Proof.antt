@@ -6,9 +6,9 @@ use Prim.Native.Nat.{ℕ, _+_, _*_, _-_, _≤_, _<_}
 use native.Mathlib.Omega.{arith}
 use lib.ListN.{length, getD, take, length-replicate}
 use Rattle.cube.specs.NumberLists.{below}
-use Rattle.gf2.specs.Packed.{unpacked, zeros}
+use Rattle.packed.specs.Packed.{unpacked, zeros}
 use Rattle.gf2.specs.Prefix.{countTo, sumTo}
-use Rattle.gf2.proofs.Rows.{length-rows, length-row}
+use Rattle.packed.proofs.Rows.{length-rows, length-row}
 use Rattle.matrix.proofs.Tallied.{tallied-kept}
 use Rattle.immunity.specs.Judgement.{summed}
 use Rattle.degree_ranks.specs.Cut.{upTo}

@@ -7,8 +7,8 @@ use native.Mathlib.Omega.{arith}
 use lib.ListN.{length}
 use Rattle.cube.specs.Mask.{points}
 use Rattle.cube.proofs.Masks.{points-inside}
-use Rattle.gf2.specs.Packed.{unpacked, zeros}
-use Rattle.gf2.proofs.Rows.{length-rows}
+use Rattle.packed.specs.Packed.{unpacked, zeros}
+use Rattle.packed.proofs.Rows.{length-rows}
 use Rattle.filter.specs.Sides.{pair}
 use Rattle.filter.specs.Part.{part, bothParts}
 use Rattle.filter.proofs.Filters.{few-taps}

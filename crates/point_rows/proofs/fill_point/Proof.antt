@@ -6,7 +6,9 @@ use native.Mathlib.Omega.{arith}
 use lib.ListN.{set}
 use lib.Pow.{pow-mono}
 use Rattle.cube.specs.Cube.{size}
-use Rattle.gf2.specs.Packed.{unpacked, rowOf, common}
+use Rattle.gf2.specs.Cut.{common}
+use Rattle.gf2.specs.Steps.{rowOf}
+use Rattle.packed.specs.Packed.{unpacked}
 use Rattle.point_rows.specs.Workspace.{Splits}
 use Rattle.point_rows.proofs.PointRow.{common-monomials}
 use Rattle.point_rows.proofs.fill_point.Statement.{statement}

@@ -8,9 +8,9 @@ use native.Mathlib.Omega.{arith}
 use lib.ListN.{length, getD, set, take, drop, length-set, length-map}
 use lib.Seq.{paste, paste-zero}
 use Rattle.cube.specs.Cube.{within}
-use Rattle.gf2.specs.Packed.{unpacked, number, pack}
-use Rattle.gf2.proofs.Packing.{length-pack, pack-at, unpack-pack}
-use Rattle.gf2.proofs.Rows.{paste-turn, paste-done}
+use Rattle.packed.specs.Packed.{unpacked, number, pack}
+use Rattle.packed.proofs.Packing.{length-pack, pack-at, unpack-pack}
+use Rattle.packed.proofs.Rows.{paste-turn, paste-done}
 use Rattle.point_rows.specs.Rows.{monomials}
 use Rattle.point_rows.proofs.Maps.{map-take, map-drop}
 use Rattle.point_rows.proofs.fill_row.Statement.{statement}

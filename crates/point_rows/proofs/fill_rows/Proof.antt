@@ -6,8 +6,9 @@ use native.Mathlib.Omega.{arith}
 use lib.ListN.{length}
 use lib.Pow.{pow-mono}
 use Rattle.cube.specs.Cube.{size}
-use Rattle.gf2.specs.Packed.{unpacked, rowOf}
-use Rattle.gf2.proofs.Rows.{length-rows}
+use Rattle.gf2.specs.Steps.{rowOf}
+use Rattle.packed.specs.Packed.{unpacked}
+use Rattle.packed.proofs.Rows.{length-rows}
 use Rattle.point_rows.specs.Workspace.{filled}
 use Rattle.point_rows.proofs.ExponentList.{length-exponents}
 use Rattle.point_rows.proofs.Filling.{filledFrom, filled-none, filled-next, filled-there, filled-all}

@@ -9,9 +9,9 @@ use lib.ListN.{length, getD, take, drop, length-drop, length-map}
 use lib.Pow.{pow-mono}
 use lib.Seq.{drop-cons, length-take-le}
 use Rattle.cube.specs.Cube.{within}
-use Rattle.gf2.specs.Vector.{Row}
-use Rattle.gf2.specs.Packed.{digit, number}
-use Rattle.gf2.proofs.Packing.{number-bound}
+use Rattle.gf2.specs.Vector.{Row, digit}
+use Rattle.packed.specs.Packed.{number}
+use Rattle.packed.proofs.Packing.{number-bound}
 use Rattle.point_rows.specs.Rows.{monomials}
 use Rattle.point_rows.proofs.row_word.Statement.{statement}
 use Rattle.point_rows.proofs.row_word.Tie as tie

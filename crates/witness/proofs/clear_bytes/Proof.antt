@@ -3,8 +3,8 @@ use mathlib.Core.List.{_++_}
 use Prim.Native.Nat.{_-_, _≤_}
 use native.Mathlib.Omega.{arith}
 use lib.ListN.{length, drop, length-set}
-use Rattle.gf2.specs.Packed.{zeros}
-use Rattle.gf2.proofs.Clearing.{clear-turn, clear-done}
+use Rattle.packed.specs.Packed.{zeros}
+use Rattle.packed.proofs.Clearing.{clear-turn, clear-done}
 use Rattle.witness.proofs.clear_bytes.Statement.{statement}
 use Rattle.witness.proofs.clear_bytes.Tie as tie
 

@@ -4,8 +4,9 @@ use mathlib.Core.Logic.{⊎-elim}
 use Prim.Native.Nat.{_-_, _≤_}
 use native.Mathlib.Omega.{arith}
 use lib.ListN.{length}
-use Rattle.gf2.specs.Packed.{unpacked, Pivots}
-use Rattle.gf2.proofs.Rows.{length-rows}
+use Rattle.gf2.specs.Steps.{Pivots}
+use Rattle.packed.specs.Packed.{unpacked}
+use Rattle.packed.proofs.Rows.{length-rows}
 use Rattle.witness.proofs.NewRow.{Tried, tried-none, tried-other, tried-zero, tried-new, tried-all}
 use Rattle.witness.proofs.keep_new.Statement.{statement}
 use Rattle.witness.proofs.keep_new.Tie as tie

@@ -15,8 +15,8 @@ use Rattle.cube.specs.Cube.{weight}
 use Rattle.cube.specs.Mask.{withOnes}
 use Rattle.order.specs.Order.{Graded, columns}
 use Rattle.gf2.specs.Vector.{Row, entry, chosen}
-use Rattle.gf2.specs.Packed.{unpack}
-use Rattle.gf2.proofs.Words.{length-unpack}
+use Rattle.packed.specs.Packed.{unpack}
+use Rattle.packed.proofs.Words.{length-unpack}
 use Rattle.order.proofs.ColumnCount.{isColumn, laterColumns, columns-later}
 use Rattle.witness.proofs.mark_columns.Statement.{statement}
 use Rattle.witness.proofs.mark_columns.Tie as tie

@@ -1,7 +1,7 @@
 use borrow.Author.Needs.{needs}
 use mathlib.Core.Path.{refl, ap, _∙_}
 use Rattle.cube.specs.Mask.{points}
-use Rattle.gf2.specs.Packed.{zeros}
+use Rattle.packed.specs.Packed.{zeros}
 use Rattle.witness.proofs.Written.{none-written}
 use Rattle.witness.proofs.write_side.Statement.{statement}
 use Rattle.witness.proofs.write_side.Tie as tie

@@ -7,8 +7,8 @@ use lib.ListN.{length, length-replicate}
 use Rattle.cube.specs.Mask.{points, withOnes}
 use Rattle.order.specs.Order.{columns}
 use Rattle.gf2.specs.Vector.{chosen}
-use Rattle.gf2.specs.Packed.{unpacked, zeros}
-use Rattle.gf2.proofs.Rows.{length-rows}
+use Rattle.packed.specs.Packed.{unpacked, zeros}
+use Rattle.packed.proofs.Rows.{length-rows}
 use Rattle.matrix.specs.Workspace.{Eliminates}
 use Rattle.witness.specs.NewRow.{FindsNew}
 use Rattle.witness.proofs.Written.{written-full, written-none, written-new}

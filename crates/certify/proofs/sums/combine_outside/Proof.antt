@@ -7,8 +7,8 @@ use Prim.Native.Nat.{ℕ, _+_, _-_, _≤_, _<_}
 use native.Mathlib.Omega.{arith}
 use lib.ListN.{length}
 use Rattle.cube.specs.Mask.{member}
-use Rattle.gf2.specs.Packed.{unpacked}
-use Rattle.gf2.proofs.Rows.{length-rows}
+use Rattle.packed.specs.Packed.{unpacked}
+use Rattle.packed.proofs.Rows.{length-rows}
 use Rattle.gf2.proofs.Steps.{pivots-same}
 use Rattle.certify.specs.Sums.{Sums}
 use Rattle.filter.proofs.Outside.{outside-part}

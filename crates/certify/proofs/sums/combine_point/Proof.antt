@@ -3,7 +3,8 @@ use mathlib.Core.Path.{sym, ap, ap₂, _∙_, subst}
 use native.Mathlib.Nat.{le-refl}
 use native.Mathlib.Omega.{arith}
 use lib.ListN.{take}
-use Rattle.gf2.specs.Packed.{unpacked, Places, reducedBoth}
+use Rattle.gf2.specs.Steps.{Places, reducedBoth}
+use Rattle.packed.specs.Packed.{unpacked}
 use Rattle.gf2.proofs.Steps.{pivots-same}
 use Rattle.matrix.specs.Combination.{followed}
 use Rattle.matrix.proofs.Following.{start-kept}

@@ -7,7 +7,7 @@ use lib.ListN.{length, getD, length-set, length-map}
 use lib.Seq.{getD-set-same, getD-set-other, ext-getD}
 use Rattle.cube.specs.NumberLists.{below}
 use Rattle.cube.proofs.Masks.{length-from, value-at}
-use Rattle.gf2.specs.Packed.{unpacked}
+use Rattle.packed.specs.Packed.{unpacked}
 use Rattle.immunity.specs.Certificate.{numberAt}
 use Rattle.certify.specs.Sums.{outsideRow, written}
 use Rattle.certify.proofs.sums.write_certificate.Statement.{statement}

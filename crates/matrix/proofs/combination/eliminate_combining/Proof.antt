@@ -11,8 +11,9 @@ use Rattle.cube.specs.NumberLists.{Inside}
 use Rattle.cube.specs.Mask.{points}
 use Rattle.cube.proofs.Masks.{member-points}
 use Rattle.gf2.specs.Vector.{Row}
-use Rattle.gf2.specs.Packed.{unpacked, Pivots, Places}
-use Rattle.gf2.proofs.Rows.{length-rows}
+use Rattle.gf2.specs.Steps.{Pivots, Places}
+use Rattle.packed.specs.Packed.{unpacked}
+use Rattle.packed.proofs.Rows.{length-rows}
 use Rattle.matrix.proofs.Taking.{pointsTo}
 use Rattle.matrix.specs.Combination.{Combines}
 use Rattle.matrix.proofs.Combining.{places-apart, kept-few, points-before, not-before, combines-none, combines-yes, combines-no}

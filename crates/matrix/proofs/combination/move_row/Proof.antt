@@ -3,7 +3,9 @@ use mathlib.Core.Path.{ap, _∙_}
 use mathlib.Core.List.{List}
 use lib.ListN.{set}
 use Rattle.gf2.specs.Vector.{Row}
-use Rattle.gf2.specs.Packed.{unpacked, rowOf, zeroRow, cut}
+use Rattle.gf2.specs.Cut.{zeroRow, cut}
+use Rattle.gf2.specs.Steps.{rowOf}
+use Rattle.packed.specs.Packed.{unpacked}
 use Rattle.matrix.proofs.combination.move_row.Statement.{statement}
 use Rattle.matrix.proofs.combination.move_row.Tie as tie
 

@@ -7,8 +7,10 @@ use native.Mathlib.Nat.{le-refl}
 use native.Mathlib.Omega.{arith}
 use lib.ListN.{length, set, take, length-set}
 use Rattle.gf2.specs.Vector.{unit}
-use Rattle.gf2.specs.Packed.{unpacked, rowOf, padded, Places, reducedBoth}
-use Rattle.gf2.proofs.Rows.{length-rows}
+use Rattle.gf2.specs.Cut.{padded}
+use Rattle.gf2.specs.Steps.{rowOf, Places, reducedBoth}
+use Rattle.packed.specs.Packed.{unpacked}
+use Rattle.packed.proofs.Rows.{length-rows}
 use Rattle.gf2.proofs.Steps.{pivots-same}
 use Rattle.point_rows.specs.Workspace.{stored}
 use Rattle.matrix.specs.Combination.{followed}

@@ -7,7 +7,8 @@ use native.Mathlib.Omega.{arith}
 use lib.ListN.{length}
 use borrow.Author.Tests.{eq-eqb, ne-eqb}
 use Rattle.gf2.specs.Vector.{Row}
-use Rattle.gf2.specs.Packed.{unpacked, Pivots}
+use Rattle.gf2.specs.Steps.{Pivots}
+use Rattle.packed.specs.Packed.{unpacked}
 use Rattle.matrix.specs.Workspace.{Eliminates}
 use Rattle.matrix.proofs.Taking.{pointsTo, eliminates-none, eliminates-yes, eliminates-no}
 use Rattle.matrix.proofs.elimination.eliminate_with.Statement.{statement}

@@ -5,8 +5,10 @@ use Prim.Native.Nat.{_<_}
 use native.Mathlib.Nat.{le-refl}
 use native.Mathlib.Omega.{arith}
 use lib.ListN.{length, set}
-use Rattle.gf2.specs.Packed.{unpacked, rowOf, cut, Pivots}
-use Rattle.gf2.proofs.Rows.{length-rows}
+use Rattle.gf2.specs.Cut.{cut}
+use Rattle.gf2.specs.Steps.{rowOf, Pivots}
+use Rattle.packed.specs.Packed.{unpacked}
+use Rattle.packed.proofs.Rows.{length-rows}
 use Rattle.gf2.proofs.Steps.{pivots-set}
 use Rattle.point_rows.specs.Workspace.{stored}
 use Rattle.matrix.proofs.Taking.{takes}

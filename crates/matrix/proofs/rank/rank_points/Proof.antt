@@ -3,8 +3,8 @@ use mathlib.Core.Path.{ap, _∙_, subst₂}
 use lib.ListN.{length}
 use Rattle.cube.specs.Mask.{points}
 use Rattle.order.specs.Order.{columns}
-use Rattle.gf2.specs.Packed.{unpacked, zeros}
-use Rattle.gf2.proofs.Rows.{length-rows}
+use Rattle.packed.specs.Packed.{unpacked, zeros}
+use Rattle.packed.proofs.Rows.{length-rows}
 use Rattle.point_rows.specs.Workspace.{exponents, filled}
 use Rattle.matrix.specs.Workspace.{Eliminates}
 use Rattle.matrix.proofs.Ranked.{ranked-is}

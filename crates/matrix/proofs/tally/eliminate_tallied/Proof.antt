@@ -7,9 +7,10 @@ use native.Mathlib.Omega.{arith}
 use lib.ListN.{length, length-replicate}
 use borrow.Author.Tests.{eq-eqb, ne-eqb}
 use Rattle.gf2.specs.Vector.{Row}
-use Rattle.gf2.specs.Packed.{unpacked, zeros, Pivots}
+use Rattle.gf2.specs.Steps.{Pivots}
+use Rattle.packed.specs.Packed.{unpacked, zeros}
 use Rattle.gf2.specs.Prefix.{AtMost}
-use Rattle.gf2.proofs.Tally.{few-zeros}
+use Rattle.packed.proofs.Tally.{few-zeros}
 use Rattle.matrix.specs.Workspace.{EliminatesAll}
 use Rattle.matrix.proofs.Taking.{pointsTo}
 use Rattle.matrix.proofs.Tallied.{eliminates-all-none, eliminates-all-yes, eliminates-all-no}

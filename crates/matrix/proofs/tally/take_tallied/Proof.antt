@@ -5,8 +5,9 @@ use Prim.Native.Nat.{_+_, _<_}
 use native.Mathlib.Nat.{le-refl}
 use native.Mathlib.Omega.{arith}
 use lib.ListN.{length, set}
-use Rattle.gf2.specs.Packed.{unpacked, rowOf, Pivots}
-use Rattle.gf2.proofs.Rows.{length-rows, length-row}
+use Rattle.gf2.specs.Steps.{rowOf, Pivots}
+use Rattle.packed.specs.Packed.{unpacked}
+use Rattle.packed.proofs.Rows.{length-rows, length-row}
 use Rattle.gf2.proofs.Steps.{pivots-set}
 use Rattle.gf2.proofs.Prefix.{cut-all}
 use Rattle.matrix.proofs.Tallied.{takes-all}

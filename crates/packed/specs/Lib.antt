@@ -1,0 +1,2 @@
+-- Rows packed into numbers.
+pub mod Packed
