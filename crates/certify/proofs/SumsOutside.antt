@@ -1,7 +1,7 @@
 -- The sums of the points outside a part.
 --   sums-none       no point is passed yet
---   sums-yes        the next point is in the set and outside the part
 --   sums-no         it is not
+--   sums-yes        the next point is in the set and outside the part
 use mathlib.Core.Path.{_≡_, refl, sym, ap, ap₂, _∙_}
 use mathlib.Core.Bool.{true, false, not, false≢true}
 use mathlib.Core.List.{List, map}

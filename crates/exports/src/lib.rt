@@ -1,5 +1,6 @@
-// The operations for C and Rust: docs/SPECIFICATION.md, 'Library'. Each answers 0 where it accepts, and else the
-// refusal's number; what an operation answers besides goes into lent numbers, which a refusal leaves as they were.
+// The operations for C and Rust: docs/SPECIFICATION.md, 'Library'. Each but Hand over answers 0 where it accepts, and else
+// the refusal's number; what it answers besides goes into lent numbers, which a refusal leaves as they were. Hand over
+// answers a length, which is 0 where it refuses.
 ghost use mathlib.Core.Path.{_≡_};
 ghost use lib.ListN.{length};
 ghost use Rattle.refusal.specs.Outcome.{leftBy};

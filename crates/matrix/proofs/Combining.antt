@@ -4,8 +4,8 @@
 --   points-before   the points of a mask below a are below a
 --   not-before      a number is not among the points below it
 --   combines-none   no point is taken yet
---   combines-yes    the next number is a point of the part
 --   combines-no     it is not
+--   combines-yes    the next number is a point of the part
 use mathlib.Core.Path.{_≡_, refl, sym, ap, ap₂, _∙_, subst}
 use mathlib.Core.Bool.{Bool, true, false}
 use mathlib.Core.List.{List, [], _∷_, map, List·Memᴰ, List·Memᴰ·head, Memᴰ·append-left, Memᴰ·append-right}

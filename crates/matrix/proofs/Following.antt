@@ -2,11 +2,11 @@
 --   start-kept          the kept rows stay while the row is put behind them and its place is written
 --   start-unit          a place that is cleared and then given a one
 --   followed-left       what is left of the row stands behind the kept rows
---   followed-sum        what stands in the point's place
 --   followed-other      all other rows stay
---   followed-places     those at the places among them
 --   followed-kept       the kept rows, with what is left of the row or without
 --   followed-front      the kept rows stay
+--   followed-sum        what stands in the point's place
+--   followed-places     those at the places among them
 use mathlib.Core.Path.{_≡_, ap, ap₂, _∙_}
 use mathlib.Core.Logic.{_≢_}
 use mathlib.Core.Bool.{Bool, true, false}

@@ -1,9 +1,9 @@
 -- The exponents of n taps, by the places of a graded order.
 --   firstExponents o n i   the exponents of n taps among the first i of the order
+--   fill-next              one number more, before what fills up
 --   exponents-few          they are at most i
 --   exponents-next         one place more
 --   exponents-all          all of them, filled up
---   fill-next              one number more, before what fills up
 --   length-exponents       512 numbers in all
 use mathlib.Core.Path.{_≡_, sym, ap, _∙_}
 use mathlib.Core.List.{List, [], _∷_, _++_}

@@ -1,8 +1,8 @@
 -- The rows of points are put in their places in the workspace, from the last point down.
 --   filledFrom us n t a   the rows t with those of the points from a on in their places
 --   filled-none           no row is written yet
---   filled-next           one point's row more
 --   filled-all            all are
+--   filled-next           one point's row more
 --   filled-there          those rows are found in their places
 --   filled-row            so is the row of each point when all are
 use mathlib.Core.Path.{_≡_, refl, sym, ap, ap₂, _∙_}

@@ -176,7 +176,7 @@ pub fn sum_lines(
     place
 }
 
-// The additions that the ranks took.
+// Judge's additions.
 pub fn additions_line(text: &mut [u8], at: usize, additions: u32) -> usize
     requires { ⌜ at + additionsLineRoom ≤ length (now text) ⌝ }
     ensures { λ r. ⌜ Appends (additionsLine additions) (now (text .entry)) (now (text .exit)) at r × (r ≤ at + additionsLineRoom) ⌝ }

@@ -2,9 +2,9 @@
 --   Tried t t′ k c b a   the points of the mask b below a were tried: nothing was left of their rows, and the kept rows stay
 --   tried-none           no point is tried yet
 --   tried-other          the next number is no point of the mask
+--   tried-all            all points were tried: there is no new point
 --   tried-zero           it is one, and nothing is left of its row: there are as many kept rows
 --   tried-new            it is one, and its row is kept: it is the first new point
---   tried-all            all points were tried: there is no new point
 use mathlib.Core.Path.{_≡_, refl, sym, ap, ap₂, _∙_}
 use mathlib.Core.Bool.{Bool, true, false, not}
 use mathlib.Core.List.{List, [], _∷_}

@@ -1,3 +1,4 @@
+-- The loop's invariant: the counts below d are those of their degrees, and those from d on are 0 (ValuesTo).
 use borrow.Author.Needs.{needs}
 use mathlib.Core.Path.{sym, _∙_}
 use Prim.Native.Nat.{_+_, _-_, _≤_}

@@ -1,3 +1,4 @@
+-- The low half of the taps has a point and at most N, so the differences exist; that the two points have the common bits a is splits-by.
 use borrow.Author.Needs.{needs}
 use mathlib.Core.Path.{_≡_}
 use Prim.Native.Nat.{_-_, _/_, _≤_}
