@@ -3,9 +3,9 @@ ghost use mathlib.Core.Path.{_≡_};
 ghost use Prim.Native.Nat.{_≤_, _<_};
 ghost use lib.ListN.{length};
 ghost use Rattle.cube.specs.Mask.{points};
-ghost use Rattle.gf2.specs.Steps.{Pivots};
+ghost use Rattle.gf2.specs.Cut.{cut};
+ghost use Rattle.gf2.specs.Steps.{rowOf, Pivots};
 ghost use Rattle.packed.specs.Packed.{unpacked};
-ghost use Rattle.point_rows.specs.Workspace.{stored};
 ghost use Rattle.matrix.specs.Workspace.{Takes, Eliminates};
 use cube::POINTS;
 use cube::Point;
@@ -21,14 +21,20 @@ pub struct Taken {
     pub additions: u32,
 }
 
-// The point `a` is taken: what is left of the first `columns` columns of the row in its place is kept if it is not zero.
-// A kernel for the crates above: the rows from the kept ones to 512, and the pivots past the kept ones, are scratch.
-pub fn take_row(ws: &mut [u64], pivots: &mut [u16], kept: usize, a: Point, columns: usize) -> Taken
-    requires { ⌜ (length (now ws) ≡ 8192) × (length (now pivots) ≡ 512) × (kept < 512) × (a .0 < 512) × Pivots (now pivots) (unpacked (now ws)) kept ⌝ }
-    ensures { λ r. ⌜ Takes (unpacked (now (ws .entry))) (unpacked (now (ws .exit))) kept (r .kept) (stored (unpacked (now (ws .entry))) columns (a .0)) (r .additions) ⌝ }
+// The first `columns` columns of row `from` are taken: what is left of them is kept if it is not zero. A kernel for the
+// crates above: the rows from the kept ones to 512, and the pivots past the kept ones, are scratch.
+pub fn take_row(
+    ws: &mut [u64],
+    pivots: &mut [u16],
+    kept: usize,
+    from: usize,
+    columns: usize,
+) -> Taken
+    requires { ⌜ (length (now ws) ≡ 8192) × (length (now pivots) ≡ 512) × (kept < 512) × (from < 1024) × Pivots (now pivots) (unpacked (now ws)) kept ⌝ }
+    ensures { λ r. ⌜ Takes (unpacked (now (ws .entry))) (unpacked (now (ws .exit))) kept (r .kept) (cut columns (rowOf (unpacked (now (ws .entry))) from)) (r .additions) ⌝ }
     ensures { λ r. ⌜ Pivots (now (pivots .exit)) (unpacked (now (ws .exit))) (r .kept) ⌝ }
 {
-    copy_columns(ws, kept, row_of(a), columns);
+    copy_columns(ws, kept, from, columns);
     let additions = reduce(ws, pivots, kept, kept);
     Taken {
         kept: keep(ws, pivots, kept),
@@ -50,7 +56,7 @@ pub fn eliminate_with(ws: &mut [u64], pivots: &mut [u16], mask: &[u8], columns: 
     let mut a: usize = 0;
     while a < POINTS {
         if mask[a] == 1 {
-            let t = take_row(ws, pivots, kept, Point(a as u16), columns);
+            let t = take_row(ws, pivots, kept, row_of(Point(a as u16)), columns);
             kept = t.kept;
             additions += t.additions;
         }

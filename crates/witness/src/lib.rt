@@ -2,11 +2,10 @@
 // of the set.
 ghost use mathlib.Core.Path.{_≡_};
 ghost use mathlib.Core.Option.{none};
-ghost use Prim.Native.Nat.{_≤_, _+_, _<_};
+ghost use mathlib.Core.Bool.{false};
+ghost use Prim.Native.Nat.{_≤_, _<_};
 ghost use lib.ListN.{length, drop};
 ghost use Rattle.cube.specs.Mask.{points, mask, withOnes};
-ghost use Rattle.immunity.specs.Witness.{newPoint, witnessAt};
-ghost use mathlib.Core.Bool.{false};
 ghost use Rattle.cube.specs.NumberLists.{Inside};
 ghost use Rattle.cube.specs.Cube.{size as sizeOf};
 ghost use Rattle.order.specs.Order.{Graded, columns as columnsOf};
@@ -14,6 +13,7 @@ ghost use Rattle.gf2.specs.Vector.{chosen};
 ghost use Rattle.gf2.specs.Steps.{Pivots};
 ghost use Rattle.packed.specs.Packed.{unpack, unpacked, zeros};
 ghost use Rattle.point_rows.specs.Workspace.{exponents, RowsFrom};
+ghost use Rattle.immunity.specs.Witness.{newPoint, witnessAt};
 ghost use Rattle.witness.specs.NewRow.{FindsNew};
 use cube::POINTS;
 use cube::Point;
@@ -26,6 +26,7 @@ use order::exponent_at;
 use packed::COLUMNS;
 use packed::solve::entry_at;
 use packed::solve::solve_last;
+use point_rows::row_of;
 
 // Every byte becomes zero.
 fn clear_bytes(bytes: &mut [u8])
@@ -68,7 +69,7 @@ fn keep_new(ws: &mut [u64], pivots: &mut [u16], set: &[u8], kept: usize, columns
     let mut a: usize = 0;
     while a < POINTS {
         if set[a] == 1 {
-            let t = take_row(ws, pivots, kept, Point(a as u16), columns);
+            let t = take_row(ws, pivots, kept, row_of(Point(a as u16)), columns);
             if kept < t.kept {
                 return t.kept;
             }
@@ -108,8 +109,8 @@ fn write_witness(
     }
 }
 
-// The same, where `differs` tells whether some row of the set is no sum of rows of the part. A kernel for the crates above:
-// the first 512 rows are scratch.
+// The same, where `differs` is false only if every row of the set is a sum of rows of the part. A kernel for the crates
+// above: the first 512 rows are scratch.
 pub fn write_side(
     ws: &mut [u64],
     order: &[u16],

@@ -1,4 +1,5 @@
 -- The loop's invariant: the kept rows and additions so far are those of the elimination of the points below a; each turn is a law of Taking.antt.
+use borrow.Author.Needs.{needs}
 use mathlib.Core.Path.{_≡_, ap, _∙_, subst}
 use mathlib.Core.List.{List}
 use mathlib.Core.Logic.{⊎-elim}
@@ -7,9 +8,10 @@ use native.Mathlib.Omega.{arith}
 use lib.ListN.{length}
 use borrow.Author.Tests.{eq-eqb, ne-eqb}
 use Rattle.gf2.specs.Vector.{Row}
-use Rattle.gf2.specs.Steps.{Pivots}
+use Rattle.gf2.specs.Cut.{cut}
+use Rattle.gf2.specs.Steps.{rowOf, Pivots}
 use Rattle.packed.specs.Packed.{unpacked}
-use Rattle.matrix.specs.Workspace.{Eliminates}
+use Rattle.matrix.specs.Workspace.{Takes, Eliminates}
 use Rattle.matrix.proofs.Taking.{pointsTo, eliminates-none, eliminates-yes, eliminates-no}
 use Rattle.matrix.proofs.elimination.eliminate_with.Statement.{statement}
 use Rattle.matrix.proofs.elimination.eliminate_with.Tie as tie
@@ -40,8 +42,8 @@ loop-holds c =
 
 take-row-requires : tie.Need-take-row-requires Inv-loop μ-loop
 take-row-requires c κs =
-    let l = c .before .before .before .before .before in
-    (l .loop .inv .3, l .loop .inv .4, omega arith, omega arith, l .loop .inv .5 .0)
+    let l = c .before .before .before .before .before .before in
+    (l .loop .inv .3, l .loop .inv .4, omega arith, omega (arith, c .row-of .ensures), l .loop .inv .5 .0)
 
 loop-again : tie.Need-loop-again Inv-loop μ-loop
 loop-again c =
@@ -53,17 +55,18 @@ loop-again c =
     let i = l .loop .inv in
     ⊎-elim
     (λ w.
-    let r = w .3 .result in
-    let h = w .3 .ensures in
-    let e : Eliminates t (unpacked (w .3 .last .0)) (s .args .columns) (pointsTo b (a + 1)) (r .kept) (l .loop .additions + r .additions) =
-    eliminates-yes t (s .args .columns) b (unpacked (l .loop .ws)) (unpacked (w .3 .last .0)) a (l .loop .kept) (l .loop .additions) (r .kept) (r .additions)
-    (i .5 .1) (eq-eqb _ _ (w .0 .taken)) (h .0) in (
+    let r = w .4 .result in
+    let h = w .4 .ensures in
+    let taken = subst (λ from. Takes (unpacked (l .loop .ws)) (unpacked (w .4 .last .0)) (l .loop .kept) (r .kept) (cut (s .args .columns) (rowOf (unpacked (l .loop .ws)) from)) (r .additions)) (w .3 .ensures) (h .0) in
+    let e : Eliminates t (unpacked (w .4 .last .0)) (s .args .columns) (pointsTo b (a + 1)) (r .kept) (l .loop .additions + r .additions) =
+    eliminates-yes t (s .args .columns) b (unpacked (l .loop .ws)) (unpacked (w .4 .last .0)) a (l .loop .kept) (l .loop .additions) (r .kept) (r .additions)
+    (i .5 .1) (eq-eqb _ _ (w .0 .taken)) taken in (
       omega arith,
-      omega (arith, w .11, h .0 .grows),
-      omega (arith, w .12, h .0 .few),
-      ap length (w .9) ∙ w .3 .kept .0 ∙ i .3,
-      ap length (w .10) ∙ w .3 .kept .1 .0 ∙ i .4,
-      moved t (s .args .columns) (pointsTo b (a + 1)) (w .9) (w .10) (w .11) (w .12) (h .1, e),
+      omega (arith, w .12, h .0 .grows),
+      omega (arith, w .13, h .0 .few),
+      ap length (w .10) ∙ w .4 .kept .0 ∙ i .3,
+      ap length (w .11) ∙ w .4 .kept .1 .0 ∙ i .4,
+      moved t (s .args .columns) (pointsTo b (a + 1)) (w .10) (w .11) (w .12) (w .13) (h .1, e),
     ))
     (λ w. (
       omega arith,
@@ -94,6 +97,7 @@ eliminate-with-spec =
     loop-holds
     (λ c. omega arith)
     (λ c. omega arith)
+    (λ c κs. search needs)
     take-row-requires
     (λ c. omega arith)
     (λ c. omega arith)
