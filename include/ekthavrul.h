@@ -3,16 +3,20 @@
  * docs/SPECIFICATION.md says what each operation does.
  *
  * n is the number of taps. A point is a number below 2 to the power n, read in base 2 as x1 (highest bit) to xn.
- * A mask is EKTHAVRUL_POINTS bytes: byte a is 0 or 1 for a point a, and 0 past the last point. A set, a table and the
- * coefficients of a polynomial are masks; those of a polynomial are numbered by exponents.
+ * An exponent is such a number too: its ones name the variables of a monomial.
+ * A mask is EKTHAVRUL_POINTS bytes: byte a is 0 or 1 for a below 2 to the power n, and 0 from there on. A set, a table
+ * and the coefficients of a polynomial are masks; a byte of the coefficients stands for an exponent, one of the others
+ * for a point.
+ * S is the set and f the table. Part 1 is the points of S where f is 1, part 0 those where it is 0; side 1 has part 1,
+ * and side 0 has part 0.
  *
- * A slice is a pointer and its length in elements; the pointer is never null, and slices that are written to overlap
- * with nothing else that is lent. Every length may be passed: a wrong one is refused. The memory is there for the whole
- * of the length that is passed, also where that is wrong: all checks are made before the first refusal is answered.
- * Every other pointer is to one object, or to an array of the length that stands in its declaration.
+ * A slice is a pointer and its length in elements; the pointer is never null. What is written to, a slice, a number or
+ * the report, overlaps with nothing else that is lent. Every length may be passed: a wrong one is refused. The memory is
+ * there for the whole of the length that is passed, also where that is wrong: the bytes of a mask are looked at even
+ * then. Every other pointer is to one object, or to an array of the length that stands in its declaration.
  *
- * Each operation but Hand over answers a status: EKTHAVRUL_ACCEPTED, or the number of the first refusal in the order in
- * which they are listed. A refusal leaves all that is lent as it was; RANKS_DIFFER alone clears the workspace. An
+ * Each operation but Hand over answers a status: EKTHAVRUL_ACCEPTED, or the number of the first refusal, in the order that
+ * stands above its declaration. A refusal leaves all that is lent as it was; RANKS_DIFFER alone clears the workspace. An
  * accepted operation leaves the workspace all zero; what stands in it before does not matter.
  */
 #ifndef EKTHAVRUL_H
@@ -112,8 +116,8 @@ uint8_t ekthavrul_judge(const uint8_t *set, size_t set_length, const uint8_t *ta
                         size_t zero_length, uint32_t report[EKTHAVRUL_REPORT]);
 
 /*
- * Certify: why no polynomial up to degree d cancels the side: for each point a of S outside the side's part, bit
- * q % 64 of certificate[8 * a + q / 64] becomes 1 exactly for the kept points q of the part whose rows at degree d sum
+ * Certify: why no polynomial up to degree d is zero on the side's part and not on all of S: for each point a of S
+ * outside the part, bit q % 64 of certificate[8 * a + q / 64] becomes 1 exactly for the kept points q of the part whose rows at degree d sum
  * to the row of a. All other bits become 0.
  * Refusals: LENGTH (set, table, workspace, certificate), TAPS, BYTES (set, then table), EMPTY_SET, DEGREE, SIDE,
  * RANKS_DIFFER.

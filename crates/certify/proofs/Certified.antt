@@ -12,28 +12,28 @@ use lib.Seq.{length-take-le}
 use Rattle.cube.specs.NumberLists.{below, Inside}
 use Rattle.cube.specs.Cube.{size}
 use Rattle.cube.specs.Mask.{points}
-use Rattle.order.specs.Order.{Graded, columns}
 use Rattle.cube.proofs.Masks.{member-from}
+use Rattle.order.specs.Order.{Graded, columns}
 use Rattle.gf2.specs.Vector.{Row, add, total, chosen}
 use Rattle.gf2.specs.Elimination.{Reduced, reduce, Elimination}
 use Rattle.gf2.specs.Cut.{zeroRow, cut, padded}
 use Rattle.gf2.specs.Steps.{rowOf}
-use Rattle.packed.specs.Packed.{number}
 use Rattle.gf2.proofs.Each.{member-each, map-each}
-use Rattle.packed.proofs.Packing.{number-padded}
 use Rattle.gf2.proofs.Padded.{zero-row, total-padded, reduce-padded, kept-fits}
+use Rattle.packed.specs.Packed.{number}
+use Rattle.packed.proofs.Packing.{number-padded}
+use Rattle.filter.specs.Part.{part}
+use Rattle.filter.specs.Outside.{isOutside}
+use Rattle.filter.proofs.Outside.{outside-says}
 use Rattle.point_rows.specs.Rows.{row}
 use Rattle.point_rows.specs.Workspace.{exponents, RowsFrom, stored}
 use Rattle.point_rows.proofs.PointRow.{short-row}
 use Rattle.point_rows.proofs.Stored.{stored-row}
 use Rattle.matrix.specs.Matrix.{eliminated, rankOf}
-use Rattle.matrix.proofs.Stored.{stored-elimination}
-use Rattle.filter.specs.Part.{part}
-use Rattle.immunity.specs.Certificate.{sumOf, rowIf, sumIf, numberAt, certificate}
 use Rattle.matrix.specs.Combination.{Combines}
-use Rattle.filter.specs.Outside.{isOutside}
+use Rattle.matrix.proofs.Stored.{stored-elimination}
+use Rattle.immunity.specs.Certificate.{sumOf, rowIf, sumIf, numberAt, certificate}
 use Rattle.certify.specs.Sums.{sumAt, Sums, outsideRow, written}
-use Rattle.filter.proofs.Outside.{outside-says}
 
 module _ {o : List ℕ} (g : Graded o) (n d : ℕ) (most : n ≤ 9) (low : d ≤ n) (t : List Row) (there : RowsFrom (exponents o n) n t 0) where
   module _ (t′ : List Row) (qs : List ℕ) (k : ℕ) (ps : List ℕ) (inside : Inside (size n) qs) (h : Combines t t′ (length (columns o n d)) qs k ps) where

@@ -9,16 +9,16 @@ use Prim.Native.Nat.{ℕ, _+_, _<_}
 use native.Mathlib.Decide.{decLt}
 use native.Mathlib.Omega.{arith}
 use lib.ListN.{length, take}
+use Rattle.cube.specs.Mask.{points}
 use Rattle.gf2.specs.Vector.{Row, add, total, chosen}
 use Rattle.gf2.specs.Elimination.{Reduced, reduce}
 use Rattle.gf2.specs.Cut.{cut, zeroRow}
 use Rattle.gf2.specs.Steps.{rowOf, Places}
+use Rattle.filter.specs.Outside.{isOutside}
 use Rattle.point_rows.specs.Workspace.{stored}
 use Rattle.matrix.specs.Combination.{followed}
-use Rattle.cube.specs.Mask.{points}
-use Rattle.filter.specs.Outside.{isOutside}
-use Rattle.certify.specs.Sums.{sumAt, Sums}
 use Rattle.matrix.proofs.Following.{followed-sum, followed-other, followed-places, followed-front}
+use Rattle.certify.specs.Sums.{sumAt, Sums}
 
 module _ (t : List Row) (c k : ℕ) (ps s b : List ℕ) where
   -- no point is passed yet

@@ -6,7 +6,7 @@
 --   clearedUnless o ws                the workspace as Certify leaves it: zero after acceptance and after 12, else as it was
 --   outcomeOf r c                     what an answer, with the certificate at exit, states
 --   CertifyContract o ..              the contract of Certify: it answers the outcome o, and leaves what that says
---   CertifyAccepts o n s f side d c   Certify accepts them at a side and a degree, lent buffers of the right lengths, and writes c
+--   CertifyAccepts o n s f side d c   Certify accepts n taps, the set s and the table f at a side and a degree, lent buffers of the right lengths, and writes c
 use mathlib.Core.Path.{_≡_}
 use mathlib.Core.Bool.{Bool, true, false, not}
 use mathlib.Core.List.{List, [], _∷_, _++_}
@@ -58,6 +58,6 @@ pub record CertifyContract (o : Outcome (List ℕ)) (ws ws′ c c′ : List ℕ)
   pub leaves : ws′ ≡ clearedUnless o ws
   pub leaves-certificate : c′ ≡ leftBy o c (λ x. x)
 
--- Certify accepts them at a side and a degree, lent buffers of the right lengths, and writes the certificate c
+-- Certify accepts the taps, the set and the table at a side and a degree, lent buffers of the right lengths, and writes the certificate c
 abbrev pub CertifyAccepts : List ℕ → ℕ → List ℕ → List ℕ → ℕ → ℕ → List ℕ → Type 0
 CertifyAccepts o n s f side d c = certifyOutcome o s f n side d 8192 4096 ≡ accepted c

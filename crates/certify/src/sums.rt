@@ -1,13 +1,13 @@
 // The sums of the points outside a part, in the workspace and in the certificate.
 ghost use mathlib.Core.Path.{_≡_};
 ghost use Prim.Native.Nat.{_<_, _+_, _≤_};
-ghost use lib.ListN.{length, set};
+ghost use lib.ListN.{length};
 ghost use Rattle.cube.specs.Mask.{points};
 ghost use Rattle.gf2.specs.Cut.{zeroRow};
 ghost use Rattle.gf2.specs.Steps.{Pivots, Places};
 ghost use Rattle.packed.specs.Packed.{unpacked};
-ghost use Rattle.certify.specs.Sums.{outsideRow, wordOf, written, Sums};
 ghost use Rattle.matrix.specs.Combination.{followed, OutsidePlaces};
+ghost use Rattle.certify.specs.Sums.{outsideRow, wordOf, written, Sums};
 use crate::CERTIFICATE;
 use cube::POINTS;
 use cube::Point;

@@ -1,4 +1,4 @@
--- Points, exponents and masks of points.
+-- Points, exponents and masks.
 pub mod Cube
 pub mod Mask
 pub mod NumberLists

@@ -124,8 +124,8 @@ pub fn all_ranks(
     }
 }
 
-// Whether the rank of a part is not that of the set.
-fn part_differs(r: Ranks) -> bool
+// Whether the rank of one of the parts is not that of the set.
+fn either_differs(r: Ranks) -> bool
     ensures { λ b. ⌜ b ≡ differ r ⌝ }
 {
     if r.set != r.one {
@@ -134,8 +134,8 @@ fn part_differs(r: Ranks) -> bool
     r.set != r.zero
 }
 
-// The first degree up to `n` at which the rank of a part is not that of the set, `n` where there is none; public for
-// Judge alone.
+// The first degree up to `n` at which the rank of a part is not that of the set, where there is one; public for Judge
+// alone.
 pub fn first_difference(ranks: [Ranks; 10], n: usize) -> usize
     requires { ⌜ n ≤ 9 ⌝ }
     ensures { λ r. ⌜ ((k : ℕ) → first (λ d. differ (getD ranks d noRanks)) (below (n + 1)) ≡ some k → r ≡ k) ⌝ }
@@ -144,7 +144,7 @@ pub fn first_difference(ranks: [Ranks; 10], n: usize) -> usize
     let mut d: usize = 0;
     while d < n {
         let here = ranks[d];
-        if part_differs(here) {
+        if either_differs(here) {
             return d;
         }
         d += 1;

@@ -9,28 +9,28 @@ use native.Mathlib.Omega.{arith}
 use lib.Dec.{eqb}
 use lib.ListN.{length}
 use borrow.Author.Tests.{eqb-true, eq-eqb, ne-eqb}
+use Rattle.refusal.specs.Outcome.{Outcome, refused, accepted, left, leftBy}
+use Rattle.refusal.proofs.Outcomes.{not-both}
 use Rattle.cube.specs.NumberLists.{lists}
 use Rattle.cube.specs.Cube.{size}
 use Rattle.cube.specs.Mask.{mask}
+use Rattle.varint.specs.Varint.{Bytes}
 use Rattle.order.specs.BuiltIn.{graded}
-use Rattle.refusal.specs.Outcome.{Outcome, refused, accepted, left, leftBy}
-use Rattle.refusal.proofs.Outcomes.{not-both}
 use Rattle.packed.specs.Packed.{zeros}
 use Rattle.polynomial.specs.Convert.{converted, convertLeaves}
 use Rattle.filter_file.specs.File.{Contents, contents, encode, Valid}
-use Rattle.varint.specs.Varint.{Bytes}
 use Rattle.filter_file.specs.Read.{readOutcome}
 use Rattle.filter_file.proofs.Encoded.{contents-encoded}
 use Rattle.filter_file.proofs.Decoded.{contents-decoded}
 use Rattle.filter_file.proofs.Continued.{refusal-stands}
 use Rattle.filter_file.proofs.Faults.{refused-fault}
 use Rattle.filter_file.proofs.ListMasks.{points-listed}
-use Rattle.certify.specs.declared.CertifyAnswer.{CertifyAnswer}
+use Rattle.filter_file.proofs.ValidFilter.{size-small, valid-filter, valid-some}
 use Rattle.immunity.specs.Judgement.{judged}
+use Rattle.judge.proofs.Passed.{judge-accepts}
+use Rattle.certify.specs.declared.CertifyAnswer.{CertifyAnswer}
 use Rattle.certify.specs.Certify.{clearedUnless, CertifyContract}
 use Rattle.demands.specs.Demands.{Demand1}
-use Rattle.judge.proofs.Passed.{judge-accepts}
-use Rattle.filter_file.proofs.ValidFilter.{size-small, valid-filter, valid-some}
 
 -- what is no file of anything that obeys the rules is refused
 refuses : (s : List ℕ) → Bytes s → ((c : Contents) → Valid c → s ≡ encode c → ⊥) → (k : ℕ) × (contents s ≡ refused k) × (2 ≤ k) × (k ≤ 7)

@@ -2,20 +2,23 @@
 --   demand2   every sentence of it
 use mathlib.Core.Path.{_≡_, sym, ap, _∙_, subst}
 use mathlib.Core.List.{List}
+use mathlib.Core.Bool.{true}
 use Prim.Native.Nat.{ℕ, _≤_, _<_}
 use native.Mathlib.Omega.{arith}
-use mathlib.Core.Bool.{true}
 use lib.ListN.{length}
+use Rattle.refusal.specs.Outcome.{left}
+use Rattle.refusal.specs.Verdict.{verdict}
+use Rattle.refusal.specs.declared.verdict.Verdict.the-variants.{Passed}
+use Rattle.refusal.proofs.Verdicts.{passed-all, accepted-passes}
 use Rattle.cube.specs.Cube.{size}
 use Rattle.cube.specs.Mask.{wellFormed, member, points}
 use Rattle.order.specs.BuiltIn.{graded}
 use Rattle.order.proofs.BuiltIn.{graded-is-graded}
 use Rattle.gf2.specs.Rank.{Rank}
 use Rattle.gf2.proofs.Kept.{additions-bound}
-use Rattle.refusal.specs.Outcome.{left}
-use Rattle.refusal.specs.Verdict.{verdict}
-use Rattle.refusal.specs.declared.verdict.Verdict.the-variants.{Passed}
-use Rattle.refusal.proofs.Verdicts.{passed-all, accepted-passes}
+use Rattle.filter.specs.Sides.{ofSide}
+use Rattle.filter.specs.Part.{part}
+use Rattle.filter.proofs.Filters.{few-taps}
 use Rattle.polynomial.specs.Polynomial.{Polynomial, value}
 use Rattle.polynomial.specs.Convert.{converted, convertChecks, convertOutcome, convertLeaves}
 use Rattle.polynomial.proofs.Value.{value-same, value-twice}
@@ -25,14 +28,11 @@ use Rattle.point_rows.specs.Rows.{row, rows}
 use Rattle.matrix.specs.Matrix.{eliminated, rankOf}
 use Rattle.matrix.specs.declared.rank.Ranked.{Ranked}
 use Rattle.matrix.proofs.RankOf.{rank-of, rank-accepted, additions-accepted}
-use Rattle.filter.specs.Sides.{ofSide}
-use Rattle.filter.specs.Part.{part}
-use Rattle.filter.proofs.Filters.{few-taps}
 use Rattle.immunity.specs.Judgement.{Judgement, judged, setRank, partRanks}
-use Rattle.demands.specs.Demands.{ConvertAccepts, RankAccepts, FewAdditions, Demand2}
-use Rattle.judge.specs.Judge.{JudgeAccepts}
 use Rattle.immunity.proofs.Given.{set-given, part-given}
+use Rattle.judge.specs.Judge.{JudgeAccepts}
 use Rattle.judge.proofs.Passed.{judge-accepted}
+use Rattle.demands.specs.Demands.{ConvertAccepts, RankAccepts, FewAdditions, Demand2}
 
 module _ (n : ℕ) (b : List ℕ) (e : ConvertAccepts n b) where
   -- the checks of Convert hold

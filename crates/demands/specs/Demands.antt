@@ -2,7 +2,7 @@
 --   ConvertAccepts n b              Convert accepts n taps and the bytes b
 --   RankAccepts b n d r             Rank accepts the points of the mask b at n taps and degree d, lent a workspace of the right length, and answers r
 --   FewAdditions m r a              a additions are at most those that the formula allows for m points of rank r
---   Demand1                         a file is read in full or refused by its first number, and a refusal changes none of the lent buffers
+--   Demand1                         a file is read in full or refused by the number of its first fault, and a refusal changes none of the lent buffers
 --   Demand2                         table and coefficients turn into each other, every rank is that of the matrix of points against monomials, and few additions are made
 --   Judgement3 n s f j              demand 3 of one n, set and table
 --   Demand3                         demand 3

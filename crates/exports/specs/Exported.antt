@@ -1,4 +1,4 @@
--- What the exported operations answer and leave, where that is more than a status and one number. Each record is over
+-- What the exported operations answer and leave, where that is more than a status and one number or buffer. Each record is over
 -- the outcome o of its operation.
 --   ReadStatus o ..      the status, both buffers and the number of taps after Read
 --   RankStatus o ..      the status, the workspace, the rank and the additions after Rank

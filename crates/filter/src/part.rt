@@ -1,11 +1,11 @@
 // The parts of a set: its points where the table is 1, and those where it is 0.
 ghost use mathlib.Core.Path.{_≡_};
-ghost use Prim.Native.Nat.{_<_};
-ghost use lib.ListN.{length, set};
-ghost use Rattle.filter.specs.Outside.{isOutside};
 ghost use mathlib.Core.Bool.{_&&_};
+ghost use Prim.Native.Nat.{_<_};
+ghost use lib.ListN.{length};
 ghost use lib.Dec.{eqb};
 ghost use Rattle.cube.specs.Mask.{points, byte};
+ghost use Rattle.filter.specs.Outside.{isOutside};
 ghost use Rattle.filter.specs.Part.{part};
 use cube::POINTS;
 use cube::Point;

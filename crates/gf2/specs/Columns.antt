@@ -2,7 +2,7 @@
 --   column c rs          the entries of the rows at column c
 --   columnsFrom c n rs   n columns from column c on
 --   columnsBefore c rs   the columns before column c
---   NewColumns rs x      x is one only at columns that are no sum of the columns before them
+--   NewColumns rs x      x is one only at columns that are no sum of the columns before them: the kept columns of a witness
 use mathlib.Core.Path.{_≡_}
 use mathlib.Core.Bool.{true}
 use mathlib.Core.List.{List, [], _∷_, map}

@@ -2,7 +2,7 @@
 --   flip b x c         column c of x is changed, or nothing
 --   solve kept bs      the row, one only at pivots of kept rows, whose parities with the kept rows are bs
 --   solveLast rs v     the same for the rows rs and v: even with each of rs, odd with v
---   witness row ps a   even with the row of each of the points ps, odd with the row of a
+--   witness row ps a   even with the row of each of the points ps, odd with the row of a, where that is no sum of theirs
 use mathlib.Core.Bool.{Bool, true, false, xor}
 use mathlib.Core.List.{List, [], _∷_, _++_}
 use Prim.Native.Nat.{ℕ}

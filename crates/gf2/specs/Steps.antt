@@ -1,6 +1,6 @@
 -- The rows of a table while one of them is reduced and kept; the kept rows are the first.
 --   rowOf t j                  row j of a list of rows, empty past its end
---   Pivots ps t k              ps has the pivots of the first k rows of t, and none of these rows is zero
+--   Pivots ps t k              ps has the pivots of the first k rows of t, each below 512: no such row of 512 columns is zero
 --   Reduces k row t t′ n       a row of t is reduced by the first k rows, with n additions; t′ is what the rows are then
 --   Places ps k s              the rows at the first k places of ps are rows from 512 on, and none is row s
 --   reducedBoth k row s ps t   the rows t after a row was reduced by the first k rows and, for each row added to it, the row at its place of ps was added to row s
@@ -18,7 +18,7 @@ use Rattle.gf2.specs.Elimination.{pivot, count, Reduced, reduce}
 abbrev pub rowOf : List Row → ℕ → Row
 rowOf t j = getD t j []
 
--- the pivots of the first k rows, none of which is zero
+-- the pivots of the first k rows, each below 512
 abbrev pub Pivots : List ℕ → List Row → ℕ → Type 0
 Pivots ps t k = (j : ℕ) → j < k → (getD ps j 0 ≡ pivot (rowOf t j)) × (getD ps j 0 < 512)
 

@@ -12,10 +12,10 @@ use lib.ListN.{getD}
 use borrow.Author.Tests.{le-leb}
 use Rattle.cube.specs.Mask.{points}
 use Rattle.cube.proofs.Masks.{value-at}
-use Rattle.matrix.specs.Matrix.{rankOf}
-use Rattle.immunity.specs.declared.Ranks.{Ranks}
 use Rattle.filter.specs.Sides.{ofSide}
 use Rattle.filter.specs.Part.{part, bothParts}
+use Rattle.matrix.specs.Matrix.{rankOf}
+use Rattle.immunity.specs.declared.Ranks.{Ranks}
 use Rattle.immunity.specs.Ranks.{noRanks, ranksIf, ranksOf}
 use Rattle.immunity.specs.Judgement.{EqualRanks, ranksAt, judged, setRank, partRanks, GivenEqual}
 

@@ -5,7 +5,7 @@
 --   Names o n d ss ps qs c       c names, for each point of ss outside ps, points of qs whose rows sum to its row, and nothing else
 --   Certifies o n d ss ps c      the same with points of ps: a certificate, whoever made it
 --   IsCertificate ..             the same with kept points of ps: the certificate that Certify writes
---   sumOf o n d ps a             the kept points of ps whose rows sum to the row of a, as a row over points
+--   sumOf o n d ps a             the kept points of ps whose rows sum to the row of a, where it is a sum of theirs, as a row over points
 --   rowIf b x                    the row x, or none
 --   sumIf ..                     the row of a point in the certificate that Certify writes
 --   numberAt x i                 number i of the rows x: 64 bits of row i / 8, from bit 64 (i mod 8) on

@@ -9,19 +9,19 @@ use mathlib.Core.Bool.{true}
 use mathlib.Core.List.{List}
 use Prim.Native.Nat.{ℕ, _≤_}
 use lib.ListN.{length}
+use borrow.Author.Tests.{eqb-true, leb-true}
 use Rattle.refusal.specs.Refusal.{numberOf}
 use Rattle.refusal.specs.Outcome.{Outcome, refused, accepted, left}
 use Rattle.refusal.specs.declared.Refusal.{Refusal}
 use Rattle.refusal.specs.declared.verdict.Verdict.the-variants as verdicts
 use Rattle.refusal.specs.Verdict.{verdict}
 use Rattle.refusal.proofs.Verdicts.{passed-all, verdict-refuses, verdict-passes}
-use Rattle.cube.proofs.Taps.{taps-range}
-use borrow.Author.Tests.{eqb-true, leb-true}
 use Rattle.cube.specs.NumberLists.{Inside}
 use Rattle.cube.specs.Cube.{size}
 use Rattle.cube.specs.Mask.{wellFormed, points}
-use Rattle.order.specs.Order.{Graded, columns}
+use Rattle.cube.proofs.Taps.{taps-range}
 use Rattle.cube.proofs.Masks.{points-inside}
+use Rattle.order.specs.Order.{Graded, columns}
 use Rattle.gf2.specs.Vector.{Row}
 use Rattle.packed.specs.Packed.{zeros}
 use Rattle.point_rows.specs.Workspace.{exponents, filled, RowsFrom}

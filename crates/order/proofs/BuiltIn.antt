@@ -14,9 +14,9 @@ use lib.Dec.{ltb}
 use lib.ListN.{length, getD}
 use borrow.Author.Tests.{ltb-true}
 use Rattle.cube.specs.Cube.{weight}
+use Rattle.cube.proofs.Listed.{and-both}
 use Rattle.order.specs.Order.{Graded}
 use Rattle.order.specs.BuiltIn.{graded}
-use Rattle.cube.proofs.Listed.{and-both}
 
 -- rises with the weight, and with the number within a weight
 unfoldable pub order-key : ℕ → ℕ

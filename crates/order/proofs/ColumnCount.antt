@@ -16,8 +16,8 @@ use lib.ListN.{length, getD, drop}
 use lib.Seq.{drop-cons, drop-length}
 use Rattle.cube.specs.NumberLists.{consIf, select}
 use Rattle.cube.specs.Cube.{size, weight}
-use Rattle.order.specs.Order.{Graded}
 use Rattle.cube.specs.Mask.{byte}
+use Rattle.order.specs.Order.{Graded}
 
 -- the exponent u is a column of n taps at degree d
 abbrev pub isColumn : ℕ → ℕ → ℕ → Bool

@@ -11,9 +11,9 @@ use lib.ListN.{length, getD}
 use lib.Pow.{pow-mono}
 use Rattle.cube.specs.NumberLists.{select}
 use Rattle.cube.specs.Cube.{weight}
+use Rattle.cube.proofs.Listed.{member-place, place-member, select-cases, member-select}
 use Rattle.order.specs.Order.{columns}
 use Rattle.order.specs.BuiltIn.{graded, Precedes}
-use Rattle.cube.proofs.Listed.{member-place, place-member, select-cases, member-select}
 use Rattle.order.proofs.BuiltIn.{order-key, graded-rises, graded-is-graded}
 use Rattle.order.proofs.DegreeColumns.{member-columns}
 

@@ -17,8 +17,8 @@ use lib.Pow.{pow-mono}
 use borrow.Author.Tests.{ltb-true, leb-true, leb-false, lt-ltb, le-leb, lt-leb}
 use Rattle.cube.specs.NumberLists.{consIf, select, Inside}
 use Rattle.cube.specs.Cube.{size, weight}
-use Rattle.order.specs.Order.{Graded, columns}
 use Rattle.cube.proofs.Listed.{member-place, select-cases, member-select, select-select, select-all, length-select, Distinct, distinct-places, distinct-select, member-all}
+use Rattle.order.specs.Order.{Graded, columns}
 
 -- weights never fall along the list
 abbrev Sorted : List ℕ → Type 0

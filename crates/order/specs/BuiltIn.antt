@@ -1,7 +1,7 @@
 -- The built-in order: docs/SPECIFICATION.md, 'Graded order'.
 --   ofWeights w k   the numbers below 512 of the k weights from w on, by weight, and by number within a weight
 --   graded          all 512 exponents, so ordered
---   Precedes u v    the exponent u stands before v in graded order: by weight, and by number within a weight
+--   Precedes u v    the exponent u stands before v in the built-in order: by weight, and by number within a weight
 use mathlib.Core.Path.{_≡_}
 use mathlib.Core.Logic.{_⊎_}
 use mathlib.Core.List.{List, [], _++_}

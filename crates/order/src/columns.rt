@@ -12,7 +12,7 @@ use cube::POINTS;
 use cube::size;
 use cube::weight;
 
-// Whether the exponent `u` is one of `points` points and weighs at most `d`.
+// Whether the exponent `u` is below `points`, the number of points and of exponents, and weighs at most `d`.
 pub fn is_column(u: Exponent, points: usize, d: usize) -> bool
     ensures { λ r. ⌜ r ≡ (ltb (u .0) points && leb (weightOf (u .0)) d) ⌝ }
 {
@@ -22,7 +22,7 @@ pub fn is_column(u: Exponent, points: usize, d: usize) -> bool
     false
 }
 
-// The number of columns of `n` taps at degree `d`.
+// The number of columns of `n` taps at degree `d`. A kernel for the crates above.
 pub fn column_count(order: &[u16], n: usize, d: usize) -> usize
     requires { ⌜ Graded (now order) × (n ≤ 9) ⌝ }
     ensures { λ r. ⌜ r ≡ length (columns (now (order .entry)) n d) ⌝ }

@@ -530,7 +530,8 @@ pub fn graded_order() -> [u16; 512]
     ORDER
 }
 
-// The exponent at place `i` of an order, or of another list of exponents: an order is read through here only.
+// The exponent at place `i` of an order, or of another list of exponents: an order is read through here only. A kernel
+// for the crates above.
 pub fn exponent_at(order: &[u16], i: usize) -> Exponent
     requires { ⌜ i < length (now order) ⌝ }
     ensures { λ r. ⌜ r .0 ≡ getD (now (order .entry)) i 0 ⌝ }

@@ -14,12 +14,12 @@ use lib.Count.{ones, ones-step}
 use lib.Dec.{eqb}
 use lib.ListN.{length, getD, set}
 use Rattle.gf2.specs.Vector.{Row, add, dot, unit}
-use Rattle.packed.specs.Packed.{odd, bitsOf, unpack}
 use Rattle.gf2.specs.Solve.{flip}
 use Rattle.gf2.proofs.Bits.{xor-false, false-xor, xor-self, xor-assoc}
+use Rattle.gf2.proofs.Dot.{add-nil}
+use Rattle.packed.specs.Packed.{odd, bitsOf, unpack}
 use Rattle.packed.proofs.Bitwise.{length-bits, xor-bitwise, and-bitwise}
 use Rattle.packed.proofs.Words.{past-first}
-use Rattle.gf2.proofs.Dot.{add-nil}
 
 -- a sum is odd just if exactly one of its terms is
 pub odd-add : (a b : ℕ) → odd (a + b) ≡ xor (odd a) (odd b)

@@ -21,12 +21,12 @@ use Rattle.gf2.specs.Vector.{Row, entry, Each, digit}
 use Rattle.gf2.specs.Elimination.{pivot, isZero, count, reduce, addIf, keepUnless}
 use Rattle.gf2.specs.Cut.{cut}
 use Rattle.gf2.specs.Steps.{rowOf, Reduces}
-use Rattle.packed.specs.Packed.{zeros}
 use Rattle.gf2.specs.Prefix.{keptTo, countTo, sumTo, AtMost, Tallies}
 use Rattle.gf2.proofs.Each.{each-taken}
 use Rattle.gf2.proofs.Reducing.{reduce-snoc, count-append}
 use Rattle.gf2.proofs.Steps.{reduces-none, reduced-row, reduces-next}
 use Rattle.gf2.proofs.Prefix.{cut-below, cut-above, cut-met, kept-snoc, left-cut}
+use Rattle.packed.specs.Packed.{zeros}
 
 -- how many numbers are below c, with one more at the end
 pub count-more : (c : ℕ) (ps : List ℕ) (p : ℕ) → countTo c (ps ++ (p ∷ [])) ≡ countTo c ps + digit (ltb p c)

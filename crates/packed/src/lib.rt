@@ -1,5 +1,5 @@
 // Rows packed into a lent workspace, and what an elimination does with them: docs/SPECIFICATION.md, 'Elimination'. The
-// rows are any rows. Each function is the kernel of a crate above.
+// rows are any rows. The functions that other crates use are kernels for the crates above.
 pub mod row; // row.rt: the rows of the workspace, one row at a time
 pub mod basis; // basis.rt: the kept rows, a basis of the span of the rows taken
 pub mod solve; // solve.rt: back substitution, a row with given parities against the kept rows

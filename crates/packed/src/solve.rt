@@ -1,5 +1,5 @@
-// Back substitution on packed rows: a row with given parities against the kept rows. Kernels for the crates above, which
-// change no lent buffer.
+// Back substitution on packed rows: a row with given parities against the kept rows. The functions that are public are
+// kernels for the crates above and change no lent buffer.
 ghost use mathlib.Core.Path.{_≡_};
 ghost use mathlib.Core.Bool.{true};
 ghost use Prim.Native.Nat.{_+_, _<_};
@@ -42,7 +42,8 @@ fn flip_column(x: &mut [u64; 8], c: usize)
     x[i] = x[i] ^ (1u64 << (c % WORD_BITS));
 }
 
-// The row that is even with each of the first `kept` rows and odd with row `kept`, with ones at their pivots only.
+// Back substitution on the first `kept` rows and row `kept`, with ones at their pivots only: of rows in echelon form the
+// result is even with each of the first and odd with the last.
 pub fn solve_last(ws: &[u64], pivots: &[u16], kept: usize) -> [u64; 8]
     requires { ⌜ (length (now ws) ≡ 8192) × (length (now pivots) ≡ 512) × (kept < 512) × Pivots (now pivots) (unpacked (now ws)) (kept + 1) ⌝ }
     ensures { λ r. ⌜ (length r ≡ 8) × Same (unpack r) (solveLast (take kept (unpacked (now (ws .entry)))) (rowOf (unpacked (now (ws .entry))) kept)) ⌝ }

@@ -1,4 +1,5 @@
-// Convert: a table becomes the coefficients of its algebraic normal form, and coefficients become the table.
+// Convert: docs/SPECIFICATION.md, 'Convert'. A table becomes the coefficients of its algebraic normal form, and
+// coefficients become the table.
 ghost use mathlib.Core.Path.{_≡_};
 ghost use Prim.Native.Nat.{_+_};
 ghost use lib.ListN.{length};

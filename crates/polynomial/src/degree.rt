@@ -1,4 +1,4 @@
-// Degree: the largest weight of an exponent with coefficient 1.
+// Degree: docs/SPECIFICATION.md, 'Degree'. The largest weight of an exponent with coefficient 1.
 ghost use mathlib.Core.Path.{_≡_};
 ghost use Prim.Native.Nat.{max};
 ghost use lib.ListN.{length};

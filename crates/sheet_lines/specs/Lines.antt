@@ -1,5 +1,5 @@
 -- The lines of the printed sheet.
---   mark n                  n / 2 rounded up, the best degree there is
+--   mark n                  n / 2 rounded up: on all points the best degree there is, says the literature
 --   refusedLine k           the line for a refusal
 --   firstLine n m           n, the number m of points of S, and the mark
 --   rankLine d r            a degree, and the ranks of S, part 1 and part 0

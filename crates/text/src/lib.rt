@@ -1,5 +1,6 @@
 // Text in a lent buffer: bytes, numbers and fields are written from a place on, and all other bytes stay. The result of
-// each function is the place behind what it wrote. The functions are `pub` for the crates of the sheet alone.
+// each function is the place behind what it wrote. The functions are `pub` for the crates of the sheet alone:
+// docs/SPECIFICATION.md, 'Sheet'.
 ghost use mathlib.Core.List.{_++_};
 ghost use Prim.Native.Nat.{_+_, _*_, _≤_, _<_};
 ghost use lib.ListN.{length};
@@ -43,7 +44,7 @@ pub fn end_line(text: &mut [u8], at: usize) -> usize
     at + 1
 }
 
-// The decimal digits of `m` are written: fewer for a number below 1,000.
+// The decimal digits of `m` are written, at most three for a number below 1,000.
 pub fn append_decimal(text: &mut [u8], at: usize, m: u64) -> usize
     requires { ⌜ at + digitsRoom ≤ length (now text) ⌝ }
     ensures { λ r. ⌜ Appends (decimal m) (now (text .entry)) (now (text .exit)) at r ⌝ }

@@ -4,13 +4,13 @@
 --   after-refused    the check was broken, or what followed it was refused
 use mathlib.Core.Path.{_≡_, refl}
 use mathlib.Core.List.{List}
+use mathlib.Core.Bool.{Bool, true, false}
 use Prim.Native.Nat.{ℕ}
 use Rattle.refusal.specs.Outcome.{Outcome, refused, accepted, _otherwise_, after}
-use Rattle.refusal.proofs.Outcomes.{not-both}
-use Rattle.varint.specs.Drawn.{Drawn, _leaving_, draw}
-use mathlib.Core.Bool.{Bool, true, false}
 use Rattle.refusal.specs.declared.Refusal.{Refusal}
 use Rattle.refusal.specs.Refusal.{numberOf}
+use Rattle.refusal.proofs.Outcomes.{not-both}
+use Rattle.varint.specs.Drawn.{Drawn, _leaving_, draw}
 
 -- the value that was drawn, and what followed it
 pub draw-accepted : {A B : Type 0} {b : B} (o : Outcome (Drawn A)) (f : A → List ℕ → Outcome B) → draw o f ≡ accepted b

@@ -9,15 +9,15 @@ use mathlib.Core.Bool.{Bool, true, false}
 use mathlib.Core.List.{List, [], _∷_, _++_, append-assoc}
 use Prim.Native.Nat.{ℕ, _+_, _-_, _*_, _/_, _%_, _≤_, _<_}
 use native.Mathlib.Omega.{arith}
+use native.Mathlib.Decide.{decLt}
 use lib.Dec.{ltb, leb}
+use lib.ListN.{length}
 use borrow.Author.Tests.{le-ltb, ltb-true, ltb-false, leb-true, lt-ltb, le-leb}
 use Rattle.refusal.specs.declared.Refusal.the-variants.{NumberForm}
 use Rattle.refusal.specs.Outcome.{accepted, _otherwise_}
 use Rattle.refusal.proofs.Outcomes.{not-both, check-passed}
 use Rattle.varint.specs.Drawn.{_leaving_}
 use Rattle.varint.specs.Varint.{secondGroup, groups, varint, encodeVarint, Bytes, shortest}
-use native.Mathlib.Decide.{decLt}
-use lib.ListN.{length}
 
 -- bytes that begin with others, and what remains after those
 pub record Spells (s b rest : List ℕ) : Type 0 where

@@ -1,6 +1,5 @@
 -- The faults of numbers.
--- What stands before a fault is encoded as it should be and obeys its rule: the fault is the first.
---   NumberFault s k                     the bytes s begin with no number
+--   NumberFault s k   the bytes s begin with no number; k is the refusal's number
 use mathlib.Core.Logic.{_⊎_}
 use mathlib.Core.List.{List, [], _∷_}
 use Prim.Native.Nat.{ℕ, _≤_, _<_}

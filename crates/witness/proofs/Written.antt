@@ -9,19 +9,18 @@ use mathlib.Core.List.{List, [], _∷_, _++_}
 use mathlib.Core.Option.{Option, none, some}
 use Prim.Native.Nat.{ℕ, _≤_, _<_}
 use native.Mathlib.Omega.{arith}
-use borrow.Author.Tests.{not-true}
 use lib.ListN.{length, take, length-append}
 use lib.Seq.{length-take-le, take-take, take-at, getD-take, getD-at}
+use borrow.Author.Tests.{not-true}
 use Rattle.cube.specs.NumberLists.{Inside}
 use Rattle.cube.specs.Cube.{size}
 use Rattle.cube.specs.Mask.{withOnes, mask}
-use Rattle.order.specs.Order.{Graded, columns}
 use Rattle.cube.proofs.MaskOf.{with-ones-mask}
+use Rattle.order.specs.Order.{Graded, columns}
 use Rattle.gf2.specs.Vector.{Row, Same, Each, chosen}
 use Rattle.gf2.specs.Elimination.{Reduced, isZero, reduce}
 use Rattle.gf2.specs.Cut.{padded}
 use Rattle.gf2.specs.Steps.{rowOf}
-use Rattle.packed.specs.Packed.{zeros}
 use Rattle.gf2.specs.Solve.{solveLast, witness}
 use Rattle.gf2.proofs.Each.{member-each, each-map, each-append}
 use Rattle.gf2.proofs.Chosen.{chosen-same}
@@ -30,6 +29,7 @@ use Rattle.gf2.proofs.Exchange.{columns-most}
 use Rattle.gf2.proofs.Kept.{kept-echelon}
 use Rattle.gf2.proofs.Padded.{Fits, zero-padded, reduce-padded, reduce-fits, kept-fits}
 use Rattle.gf2.proofs.BackSubstitution.{solve-last-padded}
+use Rattle.packed.specs.Packed.{zeros}
 use Rattle.point_rows.specs.Rows.{row}
 use Rattle.point_rows.specs.Workspace.{exponents, RowsFrom, stored}
 use Rattle.point_rows.proofs.PointRow.{short-row}
@@ -39,8 +39,8 @@ use Rattle.matrix.specs.Workspace.{Eliminates}
 use Rattle.matrix.proofs.Stored.{kept-rows, kept-count}
 use Rattle.immunity.specs.First.{first}
 use Rattle.immunity.specs.Witness.{isNew, newPoint, witnessRow, witnessAt}
-use Rattle.witness.specs.NewRow.{isLeft, keptWith, FindsNew}
 use Rattle.immunity.proofs.First.{first-passes, first-same}
+use Rattle.witness.specs.NewRow.{isLeft, keptWith, FindsNew}
 
 module _ {o : List ℕ} (g : Graded o) (n d : ℕ) (ss ps : List ℕ) where
   -- the rows kept of the part

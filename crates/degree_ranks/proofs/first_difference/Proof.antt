@@ -47,13 +47,13 @@ returns : tie.Need-returns Inv-loop μ-loop
 returns c =
     let p = c .before in
     let l = p .before .before .before in
-    (λ k e. let q : some (l .loop .d) ≡ some k = sym (l .loop .inv .1 ∙ here _ _ (l .loop .d) (l .loop .inv .0) (sym (p .part-differs .ensures) ∙ c .if1 .taken)) ∙ e in cc, l .loop .inv .0)
+    (λ k e. let q : some (l .loop .d) ≡ some k = sym (l .loop .inv .1 ∙ here _ _ (l .loop .d) (l .loop .inv .0) (sym (p .either-differs .ensures) ∙ c .if1 .taken)) ∙ e in cc, l .loop .inv .0)
 
 loop-again : tie.Need-loop-again Inv-loop μ-loop
 loop-again c =
     let p = c .before in
     let l = p .before .before .before in
-    (omega arith, l .loop .inv .1 ∙ later _ _ (l .loop .d) (l .loop .inv .0) (sym (p .part-differs .ensures) ∙ c .if1 .left))
+    (omega arith, l .loop .inv .1 ∙ later _ _ (l .loop .d) (l .loop .inv .0) (sym (p .either-differs .ensures) ∙ c .if1 .left))
 
 returns-2 : tie.Need-returns-2 Inv-loop μ-loop
 returns-2 c =

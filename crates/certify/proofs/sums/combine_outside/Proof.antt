@@ -7,12 +7,12 @@ use Prim.Native.Nat.{ℕ, _+_, _-_, _≤_, _<_}
 use native.Mathlib.Omega.{arith}
 use lib.ListN.{length}
 use Rattle.cube.specs.Mask.{member}
+use Rattle.cube.proofs.Masks.{points-fewer}
+use Rattle.gf2.proofs.Steps.{pivots-same}
 use Rattle.packed.specs.Packed.{unpacked}
 use Rattle.packed.proofs.Rows.{length-rows}
-use Rattle.gf2.proofs.Steps.{pivots-same}
-use Rattle.certify.specs.Sums.{Sums}
 use Rattle.filter.proofs.Outside.{outside-part}
-use Rattle.cube.proofs.Masks.{points-fewer}
+use Rattle.certify.specs.Sums.{Sums}
 use Rattle.certify.proofs.SumsOutside.{sums-none, sums-yes, sums-no}
 use Rattle.certify.proofs.sums.combine_outside.Statement.{statement}
 use Rattle.certify.proofs.sums.combine_outside.Tie as tie

@@ -4,9 +4,9 @@ use native.Mathlib.Omega.{arith}
 use lib.ListN.{length}
 use Rattle.gf2.specs.Elimination.{pivot}
 use Rattle.gf2.specs.Steps.{rowOf}
+use Rattle.gf2.proofs.Steps.{pivot-zero, pivot-one, pivots-more}
 use Rattle.packed.specs.Packed.{unpacked}
 use Rattle.packed.proofs.Rows.{length-row}
-use Rattle.gf2.proofs.Steps.{pivot-zero, pivot-one, pivots-more}
 use Rattle.packed.proofs.basis.keep.Statement.{statement}
 use Rattle.packed.proofs.basis.keep.Tie as tie
 

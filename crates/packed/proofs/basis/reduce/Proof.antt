@@ -10,9 +10,9 @@ use lib.Seq.{set-getD}
 use Rattle.gf2.specs.Vector.{entry, add}
 use Rattle.gf2.specs.Elimination.{pivot, count, addIf}
 use Rattle.gf2.specs.Steps.{rowOf, Reduces}
+use Rattle.gf2.proofs.Steps.{reduces-none, reduces-next, other-row}
 use Rattle.packed.specs.Packed.{unpacked}
 use Rattle.packed.proofs.Rows.{length-rows}
-use Rattle.gf2.proofs.Steps.{reduces-none, reduces-next, other-row}
 use Rattle.packed.proofs.basis.reduce.Statement.{statement}
 use Rattle.packed.proofs.basis.reduce.Tie as tie
 

@@ -10,9 +10,9 @@ use lib.Seq.{set-getD}
 use Rattle.gf2.specs.Vector.{Row, entry}
 use Rattle.gf2.specs.Elimination.{pivot, addIf}
 use Rattle.gf2.specs.Steps.{rowOf, reducedBoth}
+use Rattle.gf2.proofs.BothRows.{both-none, both-next}
 use Rattle.packed.specs.Packed.{unpacked}
 use Rattle.packed.proofs.Rows.{length-rows}
-use Rattle.gf2.proofs.BothRows.{both-none, both-next}
 use Rattle.packed.proofs.basis.reduce_both.Statement.{statement}
 use Rattle.packed.proofs.basis.reduce_both.Tie as tie
 

@@ -10,10 +10,10 @@ use lib.Seq.{set-getD}
 use Rattle.gf2.specs.Vector.{entry, add}
 use Rattle.gf2.specs.Elimination.{pivot, addIf}
 use Rattle.gf2.specs.Steps.{rowOf}
-use Rattle.packed.specs.Packed.{unpacked}
 use Rattle.gf2.specs.Prefix.{Tallies}
-use Rattle.packed.proofs.Rows.{length-rows, length-row}
 use Rattle.gf2.proofs.Steps.{other-row}
+use Rattle.packed.specs.Packed.{unpacked}
+use Rattle.packed.proofs.Rows.{length-rows, length-row}
 use Rattle.packed.proofs.Tally.{tallies-reduces, tallies-none, tallies-next}
 use Rattle.packed.proofs.basis.reduce_tallied.Statement.{statement}
 use Rattle.packed.proofs.basis.reduce_tallied.Tie as tie

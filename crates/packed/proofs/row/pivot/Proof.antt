@@ -9,8 +9,8 @@ use lib.Seq.{drop-cons}
 use lib.Count.{trailingZeros, trailing-le}
 use Rattle.gf2.specs.Elimination.{pivot}
 use Rattle.gf2.specs.Steps.{rowOf}
-use Rattle.packed.specs.Packed.{bitsOf, unpack, unpacked}
 use Rattle.gf2.specs.Vector.{Row}
+use Rattle.packed.specs.Packed.{bitsOf, unpack, unpacked}
 use Rattle.packed.proofs.Words.{pivot-word, pivot-zeros}
 use Rattle.packed.proofs.Rows.{row-at}
 use Rattle.packed.proofs.row.pivot.Statement.{statement}

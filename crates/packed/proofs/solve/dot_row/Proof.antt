@@ -10,8 +10,8 @@ use lib.Count.{ones, ones-le}
 use lib.ListN.{length, getD, drop, drop-of-length-le}
 use lib.Seq.{drop-cons}
 use Rattle.gf2.specs.Vector.{dot}
-use Rattle.packed.specs.Packed.{odd, unpack}
 use Rattle.gf2.proofs.Bits.{xor-false, false-xor, xor-assoc}
+use Rattle.packed.specs.Packed.{odd, unpack}
 use Rattle.packed.proofs.Parity.{odd-add, dot-words}
 use Rattle.packed.proofs.Rows.{words, getD-words, length-words, row-at}
 use Rattle.packed.proofs.solve.dot_row.Statement.{statement}

@@ -8,8 +8,8 @@ use native.Mathlib.Omega.{arith}
 use lib.Bits.{bitXor}
 use lib.ListN.{length, getD, set, length-set}
 use lib.Pow.{pow-lt}
-use Rattle.packed.specs.Packed.{unpack}
 use Rattle.gf2.specs.Solve.{flip}
+use Rattle.packed.specs.Packed.{unpack}
 use Rattle.packed.proofs.Parity.{unpack-flip}
 use Rattle.packed.proofs.solve.flip_column.Statement.{statement}
 use Rattle.packed.proofs.solve.flip_column.Tie as tie

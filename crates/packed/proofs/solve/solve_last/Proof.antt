@@ -9,9 +9,9 @@ use lib.Seq.{drop-cons, getD-take, length-take-le}
 use Rattle.gf2.specs.Vector.{Row, entry, dot, Same}
 use Rattle.gf2.specs.Elimination.{pivot}
 use Rattle.gf2.specs.Steps.{rowOf}
-use Rattle.packed.specs.Packed.{unpack, unpacked}
 use Rattle.gf2.specs.Solve.{flip, solveLast}
 use Rattle.gf2.proofs.BackSubstitution.{solve-last-first, solve-last-next}
+use Rattle.packed.specs.Packed.{unpack, unpacked}
 use Rattle.packed.proofs.Rows.{length-rows}
 use Rattle.packed.proofs.Words.{unpack-zero}
 use Rattle.packed.proofs.solve.solve_last.Statement.{statement}

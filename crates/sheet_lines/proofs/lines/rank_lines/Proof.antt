@@ -9,10 +9,10 @@ use Rattle.cube.specs.NumberLists.{upFrom, below}
 use Rattle.cube.proofs.Masks.{below-snoc}
 use Rattle.immunity.specs.declared.Ranks.{Ranks}
 use Rattle.immunity.specs.Ranks.{noRanks}
-use Rattle.sheet_lines.specs.Room.{rankLineRoom}
 use Rattle.text.specs.Text.{joined, Appends}
-use Rattle.sheet_lines.specs.Lines.{rankLine}
 use Rattle.text.proofs.Appending.{appends-none, appends-next}
+use Rattle.sheet_lines.specs.Room.{rankLineRoom}
+use Rattle.sheet_lines.specs.Lines.{rankLine}
 use Rattle.sheet_lines.proofs.lines.rank_lines.Statement.{statement}
 use Rattle.sheet_lines.proofs.lines.rank_lines.Tie as tie
 use Rattle.sheet_lines.proofs.lines.rank_lines.Reads as reads

@@ -12,12 +12,12 @@ use Rattle.immunity.specs.Certificate.{bitOf}
 use Rattle.text.specs.Room.{smallFieldRoom}
 use Rattle.text.specs.Text.{field, joined, fields, Appends}
 use Rattle.text.proofs.Appending.{appends-none, appends-moved, appends-next, appends-same}
+use Rattle.text.proofs.append_field.Reads as append-field-reads
 use Rattle.sheet_lines.proofs.lines.sum_fields.Statement.{statement}
 use Rattle.sheet_lines.proofs.lines.sum_fields.Tie as tie
 use Rattle.sheet_lines.proofs.lines.sum_fields.Reads as reads
 use Rattle.sheet_lines.proofs.lines.sum_fields.Lts as lts
 use Rattle.sheet_lines.proofs.lines.names.Reads as names-reads
-use Rattle.text.proofs.append_field.Reads as append-field-reads
 
 -- the points named below q are written
 abbrev Written : List ℕ → ℕ → ℕ → List ℕ → ℕ → List ℕ → ℕ → Type 0

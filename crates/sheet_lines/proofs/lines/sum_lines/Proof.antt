@@ -9,10 +9,10 @@ use lib.ListN.{length}
 use borrow.Author.Tests.{eq-eqb, ne-eqb}
 use Rattle.cube.specs.NumberLists.{upFrom, below, select}
 use Rattle.immunity.specs.Certificate.{bitOf}
-use Rattle.sheet_lines.specs.Room.{sumLineRoom}
 use Rattle.text.specs.Text.{joined, Appends}
-use Rattle.sheet_lines.specs.Lines.{sumLine}
 use Rattle.text.proofs.Appending.{appends-none, appends-moved, appends-next, appends-same}
+use Rattle.sheet_lines.specs.Room.{sumLineRoom}
+use Rattle.sheet_lines.specs.Lines.{sumLine}
 use Rattle.sheet_lines.proofs.OutsideTo.{outsideTo, outside-yes, outside-part, outside-set}
 use Rattle.sheet_lines.proofs.lines.sum_lines.Statement.{statement}
 use Rattle.sheet_lines.proofs.lines.sum_lines.Tie as tie

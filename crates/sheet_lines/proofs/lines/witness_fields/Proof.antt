@@ -11,18 +11,18 @@ use lib.Seq.{take-all}
 use borrow.Author.Tests.{eq-eqb, ne-eqb}
 use Rattle.cube.specs.NumberLists.{select}
 use Rattle.cube.specs.Mask.{member}
-use Rattle.order.specs.BuiltIn.{graded}
 use Rattle.cube.proofs.Listed.{select-take-yes, select-take-no}
+use Rattle.order.specs.BuiltIn.{graded}
 use Rattle.order.proofs.BuiltIn.{graded-is-graded}
+use Rattle.order.proofs.graded_order.Reads as graded-order-reads
 use Rattle.text.specs.Room.{smallFieldRoom}
 use Rattle.text.specs.Text.{field, joined, fields, Appends}
 use Rattle.text.proofs.Appending.{appends-none, appends-moved, appends-next, appends-same}
+use Rattle.text.proofs.append_field.Reads as append-field-reads
 use Rattle.sheet_lines.proofs.lines.witness_fields.Statement.{statement}
 use Rattle.sheet_lines.proofs.lines.witness_fields.Tie as tie
 use Rattle.sheet_lines.proofs.lines.witness_fields.Reads as reads
 use Rattle.sheet_lines.proofs.lines.witness_fields.Lts as lts
-use Rattle.order.proofs.graded_order.Reads as graded-order-reads
-use Rattle.text.proofs.append_field.Reads as append-field-reads
 
 -- the exponents chosen among the first i are written
 abbrev Written : List ℕ → ℕ → List ℕ → ℕ → List ℕ → ℕ → Type 0

@@ -13,9 +13,9 @@ use Rattle.filter.proofs.Filters.{few-taps}
 use Rattle.immunity.specs.Judgement.{Judgement, judged}
 use Rattle.judge.proofs.Passed.{judge-accepted}
 use Rattle.text.specs.Text.{Appends}
+use Rattle.text.proofs.Appending.{appends-then, appends-same}
 use Rattle.sheet_lines.specs.Lines.{firstLine}
 use Rattle.sheet_text.specs.Sheet.{judgementSheet}
-use Rattle.text.proofs.Appending.{appends-then, appends-same}
 use Rattle.sheet_text.proofs.SheetAccepts.{judge-found, judge-refuses, sums-accepted}
 use Rattle.sheet_text.proofs.sheet.filter_sheet.Statement.{statement}
 use Rattle.sheet_text.proofs.sheet.filter_sheet.Tie as tie
