@@ -9,8 +9,6 @@
 --   labelled s m            a word, and a number after a space
 --   joined t xs             the texts of the members of a list, one after the other
 --   fields xs               numbers, each after a space
---   Appends bs t t′ a b     the buffer t becomes t′: the bytes bs are written from place a on, up to place b, and all others stay
-use mathlib.Core.Path.{_≡_}
 use mathlib.Core.Bool.{Bool, true, false}
 use mathlib.Core.List.{List, [], _∷_, _++_}
 use Prim.Native.Nat.{ℕ, zero, suc, _+_, _/_, _%_}
@@ -18,7 +16,6 @@ use Prim.Native.Char.{code}
 use Prim.Native.String.{String}
 use Prim.Native.String as S
 use lib.Dec.{ltb}
-use lib.ListN.{length, take, drop}
 
 -- a text
 abbrev pub Text : Type 0
@@ -64,8 +61,3 @@ joined t (x ∷ xs) = t x ++ joined t xs
 -- numbers, each after a space
 abbrev pub fields : List ℕ → Text
 fields xs = joined field xs
-
--- what stood before place a, the bytes, and what stood from place b on
-pub record Appends (bs t t′ : Text) (a b : ℕ) : Type 0 where
-  pub text : t′ ≡ take a t ++ bs ++ drop b t
-  pub upto : b ≡ a + length bs

@@ -1,11 +1,13 @@
-// Text in a lent buffer: bytes, numbers and fields are written from a place on, and all other bytes stay. The result of
+// Text in a lent buffer: numbers and fields are written from a place on, and all other bytes stay. The result of
 // each function is the place behind what it wrote. The functions are `pub` for the crates of the sheet alone:
 // docs/SPECIFICATION.md, 'Sheet'.
 ghost use mathlib.Core.List.{_++_};
 ghost use Prim.Native.Nat.{_+_, _*_, _≤_, _<_};
 ghost use lib.ListN.{length};
+ghost use Rattle.buffer.specs.Appends.{Appends};
 ghost use Rattle.text.specs.Room.{digitsRoom, fieldRoom, smallDigitsRoom, smallFieldRoom, newlineRoom};
-ghost use Rattle.text.specs.Text.{newline, decimal, field, Appends};
+ghost use Rattle.text.specs.Text.{newline, decimal, field};
+use buffer::append;
 
 // The room of the digits of a number of 64 bits: the most bytes that they take.
 pub const DIGITS: usize = 20;
@@ -21,19 +23,6 @@ pub const SMALL_FIELD: usize = 1 + SMALL_DIGITS;
 
 // The room of the end of a line.
 pub const NEWLINE: usize = 1;
-
-// The bytes are written from place `at` on.
-pub fn append(text: &mut [u8], at: usize, bytes: &[u8]) -> usize
-    requires { ⌜ at + length (now bytes) ≤ length (now text) ⌝ }
-    ensures { λ r. ⌜ Appends (now (bytes .entry)) (now (text .entry)) (now (text .exit)) at r ⌝ }
-{
-    let mut i: usize = 0;
-    while i < bytes.len() {
-        text[at + i] = bytes[i];
-        i += 1;
-    }
-    at + i
-}
 
 // The end of a line is written.
 pub fn end_line(text: &mut [u8], at: usize) -> usize

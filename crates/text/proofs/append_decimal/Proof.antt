@@ -4,9 +4,9 @@ use mathlib.Core.Path.{_≡_, ap, _∙_}
 use Prim.Native.Nat.{_≤_}
 use native.Mathlib.Omega.{arith}
 use lib.ListN.{length, take}
+use Rattle.buffer.proofs.Appending.{appends-same}
 use Rattle.text.specs.Room.{digitsRoom, smallDigitsRoom}
 use Rattle.text.specs.Text.{decimal}
-use Rattle.text.proofs.Appending.{appends-same}
 use Rattle.text.proofs.Decimals.{decimal-fewest, decimal-short}
 use Rattle.text.proofs.append_decimal.Statement.{statement}
 use Rattle.text.proofs.append_decimal.Tie as tie

@@ -2,7 +2,7 @@ use borrow.Author.Needs.{needs}
 use Prim.Native.Nat.{_≤_}
 use native.Mathlib.Omega.{arith}
 use lib.ListN.{length}
-use Rattle.text.proofs.Appending.{appends-then}
+use Rattle.buffer.proofs.Appending.{appends-then}
 use Rattle.text.proofs.append_heading.Statement.{statement}
 use Rattle.text.proofs.append_heading.Tie as tie
 

@@ -1,6 +1,6 @@
 use borrow.Author.Needs.{needs}
 use native.Mathlib.Omega.{arith}
-use Rattle.text.proofs.Appending.{appends-then}
+use Rattle.buffer.proofs.Appending.{appends-then}
 use Rattle.text.proofs.append_labelled.Statement.{statement}
 use Rattle.text.proofs.append_labelled.Tie as tie
 

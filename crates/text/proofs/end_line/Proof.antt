@@ -1,5 +1,5 @@
 use borrow.Author.Needs.{needs}
-use Rattle.text.proofs.Appending.{appends-byte}
+use Rattle.buffer.proofs.Appending.{appends-byte}
 use Rattle.text.proofs.end_line.Statement.{statement}
 use Rattle.text.proofs.end_line.Tie as tie
 

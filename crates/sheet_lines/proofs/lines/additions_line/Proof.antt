@@ -1,7 +1,7 @@
 use borrow.Author.Needs.{needs}
 use native.Mathlib.Omega.{arith}
+use Rattle.buffer.proofs.Appending.{appends-then}
 use Rattle.text.specs.Text.{ascii}
-use Rattle.text.proofs.Appending.{appends-then}
 use Rattle.sheet_lines.proofs.lines.additions_line.Statement.{statement}
 use Rattle.sheet_lines.proofs.lines.additions_line.Tie as tie
 

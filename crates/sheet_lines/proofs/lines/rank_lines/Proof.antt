@@ -9,8 +9,10 @@ use Rattle.cube.specs.NumberLists.{upFrom, below}
 use Rattle.cube.proofs.Masks.{below-snoc}
 use Rattle.immunity.specs.declared.Ranks.{Ranks}
 use Rattle.immunity.specs.Ranks.{noRanks}
-use Rattle.text.specs.Text.{joined, Appends}
-use Rattle.text.proofs.Appending.{appends-none, appends-next}
+use Rattle.buffer.specs.Appends.{Appends}
+use Rattle.buffer.proofs.Appending.{appends-none}
+use Rattle.text.specs.Text.{joined}
+use Rattle.text.proofs.Joined.{appends-next}
 use Rattle.sheet_lines.specs.Room.{rankLineRoom}
 use Rattle.sheet_lines.specs.Lines.{rankLine}
 use Rattle.sheet_lines.proofs.lines.rank_lines.Statement.{statement}

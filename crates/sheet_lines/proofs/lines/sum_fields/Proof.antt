@@ -9,9 +9,11 @@ use lib.ListN.{length}
 use Rattle.cube.specs.NumberLists.{upFrom, below, select}
 use Rattle.cube.proofs.Masks.{select-yes, select-no}
 use Rattle.immunity.specs.Certificate.{bitOf}
+use Rattle.buffer.specs.Appends.{Appends}
+use Rattle.buffer.proofs.Appending.{appends-none, appends-moved, appends-same}
 use Rattle.text.specs.Room.{smallFieldRoom}
-use Rattle.text.specs.Text.{field, joined, fields, Appends}
-use Rattle.text.proofs.Appending.{appends-none, appends-moved, appends-next, appends-same}
+use Rattle.text.specs.Text.{field, joined, fields}
+use Rattle.text.proofs.Joined.{appends-next}
 use Rattle.text.proofs.append_field.Reads as append-field-reads
 use Rattle.sheet_lines.proofs.lines.sum_fields.Statement.{statement}
 use Rattle.sheet_lines.proofs.lines.sum_fields.Tie as tie

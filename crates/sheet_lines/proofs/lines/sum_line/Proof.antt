@@ -2,8 +2,8 @@ use borrow.Author.Needs.{needs}
 use Prim.Native.Nat.{_≤_}
 use native.Mathlib.Omega.{arith}
 use lib.ListN.{length}
+use Rattle.buffer.proofs.Appending.{appends-then}
 use Rattle.text.specs.Text.{ascii}
-use Rattle.text.proofs.Appending.{appends-then}
 use Rattle.sheet_lines.proofs.lines.sum_line.Statement.{statement}
 use Rattle.sheet_lines.proofs.lines.sum_line.Tie as tie
 

@@ -9,8 +9,10 @@ use lib.ListN.{length}
 use borrow.Author.Tests.{eq-eqb, ne-eqb}
 use Rattle.cube.specs.NumberLists.{upFrom, below, select}
 use Rattle.immunity.specs.Certificate.{bitOf}
-use Rattle.text.specs.Text.{joined, Appends}
-use Rattle.text.proofs.Appending.{appends-none, appends-moved, appends-next, appends-same}
+use Rattle.buffer.specs.Appends.{Appends}
+use Rattle.buffer.proofs.Appending.{appends-none, appends-moved, appends-same}
+use Rattle.text.specs.Text.{joined}
+use Rattle.text.proofs.Joined.{appends-next}
 use Rattle.sheet_lines.specs.Room.{sumLineRoom}
 use Rattle.sheet_lines.specs.Lines.{sumLine}
 use Rattle.sheet_lines.proofs.OutsideTo.{outsideTo, outside-yes, outside-part, outside-set}

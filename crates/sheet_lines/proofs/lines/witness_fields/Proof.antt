@@ -15,9 +15,11 @@ use Rattle.cube.proofs.Listed.{select-take-yes, select-take-no}
 use Rattle.order.specs.BuiltIn.{graded}
 use Rattle.order.proofs.BuiltIn.{graded-is-graded}
 use Rattle.order.proofs.graded_order.Reads as graded-order-reads
+use Rattle.buffer.specs.Appends.{Appends}
+use Rattle.buffer.proofs.Appending.{appends-none, appends-moved, appends-same}
 use Rattle.text.specs.Room.{smallFieldRoom}
-use Rattle.text.specs.Text.{field, joined, fields, Appends}
-use Rattle.text.proofs.Appending.{appends-none, appends-moved, appends-next, appends-same}
+use Rattle.text.specs.Text.{field, joined, fields}
+use Rattle.text.proofs.Joined.{appends-next}
 use Rattle.text.proofs.append_field.Reads as append-field-reads
 use Rattle.sheet_lines.proofs.lines.witness_fields.Statement.{statement}
 use Rattle.sheet_lines.proofs.lines.witness_fields.Tie as tie

@@ -12,8 +12,8 @@ use Rattle.filter.specs.Filter.{Filter}
 use Rattle.filter.proofs.Filters.{few-taps}
 use Rattle.immunity.specs.Judgement.{Judgement, judged}
 use Rattle.judge.proofs.Passed.{judge-accepted}
-use Rattle.text.specs.Text.{Appends}
-use Rattle.text.proofs.Appending.{appends-then, appends-same}
+use Rattle.buffer.specs.Appends.{Appends}
+use Rattle.buffer.proofs.Appending.{appends-then, appends-same}
 use Rattle.sheet_lines.specs.Lines.{firstLine}
 use Rattle.sheet_text.specs.Sheet.{judgementSheet}
 use Rattle.sheet_text.proofs.SheetAccepts.{judge-found, judge-refuses, sums-accepted}

@@ -4,7 +4,7 @@ use Prim.Native.Nat.{_+_, _≤_}
 use borrow.Author.Tests.{eq-eqb, ne-eqb}
 use Rattle.filter.specs.Sides.{pair, sideIf}
 use Rattle.sheet_lines.specs.Room.{degreeLineRoom}
-use Rattle.text.specs.Text.{Appends}
+use Rattle.buffer.specs.Appends.{Appends}
 use Rattle.sheet_lines.specs.Lines.{degreeLine}
 use Rattle.sheet_text.proofs.sheet.report_line.Statement.{statement}
 use Rattle.sheet_text.proofs.sheet.report_line.Tie as tie

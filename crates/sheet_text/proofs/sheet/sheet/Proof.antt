@@ -10,8 +10,8 @@ use Rattle.refusal.specs.Refusal.{numberOf}
 use Rattle.refusal.specs.Outcome.{refused}
 use Rattle.io.specs.Counts.{Counts}
 use Rattle.filter_file.specs.Read.{readOutcome}
-use Rattle.text.specs.Text.{Appends}
-use Rattle.text.proofs.Appending.{appends-front}
+use Rattle.buffer.specs.Appends.{Appends}
+use Rattle.buffer.proofs.Appending.{appends-front}
 use Rattle.sheet_text.specs.Sheet.{sheet, SheetContract}
 use Rattle.sheet_text.proofs.ReadFilter.{ReadAs, filter-judged, filter-sheet, read-filter, read-refused, refused-sheet}
 use Rattle.sheet_text.proofs.sheet.sheet.Statement.{statement}
@@ -21,8 +21,8 @@ use Rattle.sheet_text.proofs.sheet.sheet.Tie as tie
 front : (bs t t′ : List ℕ) (r : ℕ) → Appends bs t t′ 0 r → (file : List ℕ) → bs ≡ sheet file → Counts r t′ × SheetContract file t t′ r
 front bs t t′ r h file e =
     let long : r ≡ length bs = h .upto ∙ zero-add (length bs) in
-    let whole : length t′ ≡ length bs + length (drop r t) = ap length (h .text) ∙ length-append bs (drop r t) in
-    ((omega (arith, long, whole), long ∙ sym (ap length (appends-front zero-le h))), record { answers = long ∙ ap length e; leaves = h .text ∙ ap (λ x. x ++ drop r t) e })
+    let whole : length t′ ≡ length bs + length (drop r t) = ap length (h .buffer) ∙ length-append bs (drop r t) in
+    ((omega (arith, long, whole), long ∙ sym (ap length (appends-front zero-le h))), record { answers = long ∙ ap length e; leaves = h .buffer ∙ ap (λ x. x ++ drop r t) e })
 
 -- the filter that is read
 read-found : (c : tie.After-reading2) → let r = c .before .before .before .before in

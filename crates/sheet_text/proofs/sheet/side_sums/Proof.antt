@@ -3,7 +3,7 @@ use mathlib.Core.Path.{subst}
 use Prim.Native.Nat.{ℕ, _+_, _≤_}
 use lib.ListN.{length-replicate}
 use Rattle.sheet_lines.specs.Room.{sideSumsRoom}
-use Rattle.text.specs.Text.{Appends}
+use Rattle.buffer.specs.Appends.{Appends}
 use Rattle.cube.specs.Mask.{points}
 use Rattle.filter.specs.Part.{part}
 use Rattle.filter.specs.Outside.{outside}

@@ -4,7 +4,7 @@ use mathlib.Core.Path.{_≡_, refl, sym, ap}
 use mathlib.Core.List.{List, _++_}
 use Prim.Native.Nat.{ℕ, zero, suc, _-_}
 use native.Mathlib.Omega.{arith}
-use Rattle.text.proofs.Appending.{appends-none, appends-then, appends-same}
+use Rattle.buffer.proofs.Appending.{appends-none, appends-then, appends-same}
 use Rattle.sheet_text.specs.Sheet.{sideSums, sums}
 use Rattle.sheet_text.proofs.sheet.sum_sections.Statement.{statement}
 use Rattle.sheet_text.proofs.sheet.sum_sections.Tie as tie

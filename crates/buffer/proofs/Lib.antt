@@ -1,0 +1,2 @@
+-- Laws of bytes written into a buffer.
+pub mod Appending

@@ -1,0 +1,2 @@
+-- Bytes in a lent buffer.
+pub mod Appends
