@@ -17,7 +17,7 @@ use Rattle.polynomial.specs.Degree.{largest, degreeOutcome}
 use Rattle.matrix.specs.Matrix.{eliminated}
 use Rattle.matrix.specs.Rank.{rankOutcome}
 use Rattle.varint.specs.Varint.{groups, varint, encodeVarint}
-use Rattle.filter_file.specs.PointList.{pointsFrom, pointList, differences, encodeList}
+use Rattle.point_list.specs.PointList.{pointsFrom, pointList, differences, encodeList}
 use Rattle.filter_file.specs.File.{twoLists, contents, encode}
 use Rattle.filter_file.specs.Read.{readOutcome}
 use Rattle.filter.specs.Outside.{isOutside}

@@ -18,13 +18,13 @@ use Rattle.varint.specs.Varint.{Bytes}
 use Rattle.order.specs.BuiltIn.{graded}
 use Rattle.packed.specs.Packed.{zeros}
 use Rattle.polynomial.specs.Convert.{converted, convertLeaves}
+use Rattle.point_list.proofs.ListMasks.{points-listed}
 use Rattle.filter_file.specs.File.{Contents, contents, encode, Valid}
 use Rattle.filter_file.specs.Read.{readOutcome}
 use Rattle.filter_file.proofs.Encoded.{contents-encoded}
 use Rattle.filter_file.proofs.Decoded.{contents-decoded}
 use Rattle.filter_file.proofs.Continued.{refusal-stands}
 use Rattle.filter_file.proofs.Faults.{refused-fault}
-use Rattle.filter_file.proofs.ListMasks.{points-listed}
 use Rattle.filter_file.proofs.ValidFilter.{size-small, valid-filter, valid-some}
 use Rattle.immunity.specs.Judgement.{judged}
 use Rattle.judge.proofs.Passed.{judge-accepts}

@@ -21,9 +21,9 @@ use Rattle.cube.specs.Mask.{withOnes}
 use Rattle.varint.specs.declared.Varint.{Varint}
 use Rattle.varint.specs.Drawn.{Drawn}
 use Rattle.varint.specs.Varint.{varint, outcomeOf as drawnOf}
+use Rattle.point_list.specs.PointList.{pointBy, pointsFrom, pointList, markDrawn}
 use Rattle.filter_file.specs.declared.progress.Progress.{Progress}
 use Rattle.filter_file.specs.declared.list.OpenList.{OpenList}
-use Rattle.filter_file.specs.PointList.{pointBy, pointsFrom, pointList, markDrawn}
 use Rattle.filter_file.specs.Read.{outcomeOf as readingOf}
 use Rattle.filter_file.specs.Progress.{leave, outcomeOf, beside, tapsBy, tapsOf, listAfter}
 use Rattle.filter_file.specs.OpenList.{saying, remaining, afterCount, afterPoint, refusedList, Bounded}

@@ -9,11 +9,9 @@ pub mod Encoded
 pub mod Faults
 pub mod Held
 pub mod LentAgain
-pub mod ListMasks
 pub mod Locals
 pub mod Longest
 pub mod Marked
 pub mod NumberCalls
 pub mod NumbersDrawn
-pub mod PointsDrawn
 pub mod ValidFilter

@@ -14,10 +14,10 @@ use Rattle.cube.specs.Cube.{taps, size}
 use Rattle.varint.specs.Drawn.{Drawn, _leaving_, draw}
 use Rattle.varint.specs.Varint.{varint}
 use Rattle.varint.proofs.Draws.{draw-accepted}
+use Rattle.point_list.specs.PointList.{pointList, markDrawn}
 use Rattle.filter_file.specs.declared.progress.Progress.{Progress}
 use Rattle.filter_file.specs.declared.read.ReadAnswer.{ReadAnswer}
 use Rattle.filter_file.specs.declared.read.ReadAnswer.the-variants.{Accepted, Refused}
-use Rattle.filter_file.specs.PointList.{pointList, markDrawn}
 use Rattle.filter_file.specs.Read.{outcomeOf as readingOf}
 use Rattle.filter_file.specs.Progress.{leave, outcomeOf, beside, tapsOf, listAfter, numbers, Tapped}
 

@@ -15,8 +15,8 @@ use Rattle.cube.specs.Mask.{points, mask}
 use Rattle.cube.proofs.Taps.{taps-range}
 use Rattle.cube.proofs.MaskOf.{length-mask}
 use Rattle.filter.specs.Filter.{Filter}
+use Rattle.point_list.proofs.ListMasks.{points-listed, listed-formed}
 use Rattle.filter_file.specs.File.{Contents, Valid}
-use Rattle.filter_file.proofs.ListMasks.{points-listed, listed-formed}
 
 -- N is at most 512
 pub size-small : {c : Contents} → Valid c → size (c .n) ≤ 512

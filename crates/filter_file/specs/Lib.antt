@@ -2,6 +2,5 @@
 pub mod Fault
 pub mod File
 pub mod OpenList
-pub mod PointList
 pub mod Progress
 pub mod Read

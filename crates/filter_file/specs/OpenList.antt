@@ -13,8 +13,8 @@ use Rattle.refusal.specs.declared.Refusal.{Refusal}
 use Rattle.refusal.specs.Outcome.{Outcome, accepted}
 use Rattle.cube.specs.Cube.{size}
 use Rattle.varint.specs.Drawn.{Drawn, draw}
+use Rattle.point_list.specs.PointList.{pointBy, pointsFrom, listBy, markDrawn}
 use Rattle.filter_file.specs.declared.list.OpenList.{OpenList}
-use Rattle.filter_file.specs.PointList.{pointBy, pointsFrom, listBy, markDrawn}
 use Rattle.filter_file.specs.Read.{outcomeOf as readingOf}
 use Rattle.filter_file.specs.Progress.{leave, beside, refusedBy}
 

@@ -1,6 +1,7 @@
 -- A number is refused just if it has a fault.
 --   number-fault   a number that is refused has a fault
 --   fault-number   one that has a fault is refused by its number
+--   number-cut     a number that ends too early has at most one byte
 use mathlib.Core.Path.{_≡_, refl, sym}
 use mathlib.Core.Logic.{inl, inr}
 use mathlib.Core.Bool.{Bool, true, false}
@@ -8,6 +9,7 @@ use mathlib.Core.List.{List, [], _∷_}
 use Prim.Native.Nat.{ℕ, _≤_}
 use native.Mathlib.Omega.{arith}
 use lib.Dec.{ltb, leb}
+use lib.ListN.{length}
 use borrow.Author.Tests.{ltb-false, leb-false, le-ltb, lt-leb, le-leb}
 use Rattle.refusal.specs.declared.Refusal.the-variants.{NumberForm}
 use Rattle.refusal.specs.Outcome.{Outcome, refused}
@@ -46,3 +48,9 @@ fault-number ends-before = refl
 fault-number (ends-inside x h) = rw (le-ltb x 128 h)
 fault-number (second-byte x y s h (inl l)) = rw (le-ltb x 128 h, lt-leb 1 y l)
 fault-number (second-byte x y s h (inr l)) = rw (le-ltb x 128 h, le-leb 1 y (omega arith), le-ltb y 128 l)
+
+-- a number that ends too early has at most one byte
+pub number-cut : {s : List ℕ} {k : ℕ} → NumberFault s k → k ≡ 2 → length s ≤ 1
+number-cut ends-before e = omega arith
+number-cut (ends-inside x h) e = omega arith
+number-cut (second-byte x y s h l) e = absurd (omega arith)

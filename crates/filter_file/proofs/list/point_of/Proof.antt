@@ -10,8 +10,8 @@ use Rattle.refusal.specs.declared.Refusal.the-variants.{Range}
 use Rattle.refusal.specs.Outcome.{Outcome, refused, accepted}
 use Rattle.cube.specs.Mask.{withOnes}
 use Rattle.varint.specs.Drawn.{Drawn, _leaving_}
+use Rattle.point_list.specs.PointList.{before, pointsFrom, markDrawn}
 use Rattle.filter_file.specs.declared.list.OpenList.{OpenList}
-use Rattle.filter_file.specs.PointList.{before, pointsFrom, markDrawn}
 use Rattle.filter_file.proofs.Decisions.{refused-remaining, refused-bounded}
 use Rattle.filter_file.proofs.list.point_of.Statement.{statement}
 use Rattle.filter_file.proofs.list.point_of.Tie as tie

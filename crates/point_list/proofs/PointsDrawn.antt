@@ -7,7 +7,7 @@ use Prim.Native.Nat.{ℕ}
 use Rattle.refusal.specs.Outcome.{Outcome, refused, accepted, after}
 use Rattle.refusal.proofs.Outcomes.{not-both}
 use Rattle.varint.specs.Drawn.{Drawn, _leaving_}
-use Rattle.filter_file.specs.PointList.{before}
+use Rattle.point_list.specs.PointList.{before}
 
 -- the points after the first
 pub before-accepted : {ps rest : List ℕ} (p : ℕ) (o : Outcome (Drawn (List ℕ))) → before p o ≡ accepted (ps leaving rest)

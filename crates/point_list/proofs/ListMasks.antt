@@ -15,7 +15,7 @@ use Rattle.cube.specs.Cube.{size}
 use Rattle.cube.specs.Mask.{wellFormed, points, mask}
 use Rattle.cube.proofs.Masks.{member-from}
 use Rattle.cube.proofs.MaskOf.{select-same, points-mask, mask-well-formed}
-use Rattle.filter_file.specs.PointList.{RisingFrom}
+use Rattle.point_list.specs.PointList.{RisingFrom}
 
 -- a number that a rising list has is not below where the list starts, and is below its bound
 listed-between : (low m : ℕ) (ps : List ℕ) (u : ℕ) → RisingFrom low m ps → lists ps u ≡ true → (low ≤ u) × (u < m)
