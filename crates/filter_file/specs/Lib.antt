@@ -1,6 +1,4 @@
 -- What the bytes of a filter file say, and the bytes that say it.
 pub mod Fault
 pub mod File
-pub mod OpenList
-pub mod Progress
 pub mod Read

@@ -11,9 +11,9 @@ use Rattle.refusal.specs.declared.Refusal.the-variants.{Surplus}
 use Rattle.refusal.specs.Outcome.{accepted, _otherwise_, after}
 use Rattle.cube.specs.NumberLists.{isEmpty, lists}
 use Rattle.cube.specs.Mask.{mask}
+use Rattle.file_reader.specs.Progress.{numbers, outcomeOf, beside}
 use Rattle.filter_file.specs.File.{contents}
 use Rattle.filter_file.specs.Read.{readOutcome}
-use Rattle.filter_file.specs.Progress.{numbers, outcomeOf, beside}
 use Rattle.filter_file.proofs.Marked.{zeros, numbers-refused, numbers-read}
 use Rattle.filter_file.proofs.Answers.{read-refused, read-passes, read-lengths}
 use Rattle.filter_file.proofs.read.read_numbers.Statement.{statement}

@@ -1,0 +1,3 @@
+-- What one reader draws from a file.
+pub mod OpenList
+pub mod Progress
