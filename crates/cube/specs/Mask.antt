@@ -1,6 +1,4 @@
 -- Sets, tables and coefficients as they are lent, 512 bytes: docs/SPECIFICATION.md, 'Buffers'.
---   bitOrZero point x   a byte for a point is 0 or 1, another is 0
---   allowed m i x       byte i of a mask of m points may be x
 --   bitsThenZeros m b   the first m bytes of b are 0 or 1, the others 0
 --   wellFormed n b      byte a is 0 or 1 for a below N, and 0 from N on: the 0/1/0 rule
 --   WellFormed n b      the same as a proposition (proofs/Masks.antt, `formed-says`)
@@ -15,19 +13,10 @@ use mathlib.Core.Path.{_≡_}
 use mathlib.Core.Bool.{Bool, true, false, _&&_}
 use mathlib.Core.List.{List, [], _∷_, map, List·Memᴰ}
 use Prim.Native.Nat.{ℕ, zero, suc, _≤_, _<_}
-use lib.Dec.{eqb, leb, ltb}
+use lib.Dec.{eqb, leb}
 use lib.ListN.{length, getD, set}
 use Rattle.cube.specs.NumberLists.{below, select}
 use Rattle.cube.specs.Cube.{size}
-
--- a byte for a point is 0 or 1, another is 0
-abbrev pub bitOrZero : Bool → ℕ → Bool
-bitOrZero true x = leb x 1
-bitOrZero false x = eqb x 0
-
--- byte i of a mask of m points may be x
-abbrev pub allowed : ℕ → ℕ → ℕ → Bool
-allowed m i x = bitOrZero (ltb i m) x
 
 -- the first m bytes are 0 or 1, the others 0
 unfoldable pub bitsThenZeros : ℕ → List ℕ → Bool

@@ -5,10 +5,11 @@
 --   select t xs      the members of a list that pass a test, in order
 --   lists xs u       whether the number u stands in the list xs, as a test
 --   isEmpty xs       whether a list has no member
+--   largest t xs     the largest t of a member of a list, 0 where there is none
 --   Inside m xs      each number of the list is below m
 use mathlib.Core.Bool.{Bool, true, false, _||_}
 use mathlib.Core.List.{List, [], _∷_, List·Memᴰ}
-use Prim.Native.Nat.{ℕ, zero, suc, _<_}
+use Prim.Native.Nat.{ℕ, zero, suc, _<_, max}
 use lib.Dec.{eqb}
 
 -- the k numbers from u on
@@ -40,6 +41,11 @@ lists (x ∷ xs) u = eqb x u || lists xs u
 unfoldable pub isEmpty : List ℕ → Bool
 isEmpty [] = true
 isEmpty (x ∷ xs) = false
+
+-- the largest t of a member
+unfoldable pub largest : (ℕ → ℕ) → List ℕ → ℕ
+largest t [] = 0
+largest t (x ∷ xs) = max (t x) (largest t xs)
 
 -- each number of the list is below m
 abbrev pub Inside : ℕ → List ℕ → Type 0

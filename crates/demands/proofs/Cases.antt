@@ -3,7 +3,7 @@
 use mathlib.Core.Path.{_≡_, refl}
 use mathlib.Core.Bool.{true, xor}
 use lib.Count.{ones, onesIn}
-use Rattle.cube.specs.NumberLists.{upFrom, consIf, select, lists, isEmpty}
+use Rattle.cube.specs.NumberLists.{upFrom, consIf, select, lists, isEmpty, largest}
 use Rattle.cube.specs.Cube.{within}
 use Rattle.cube.specs.Mask.{bitsThenZeros}
 use Rattle.order.specs.BuiltIn.{graded}
@@ -13,7 +13,7 @@ use Rattle.gf2.specs.Solve.{flip, solve}
 use Rattle.packed.specs.Packed.{number}
 use Rattle.polynomial.specs.Polynomial.{sumBelow, value}
 use Rattle.polynomial.specs.Convert.{values, converted, convertOutcome, convertLeaves}
-use Rattle.polynomial.specs.Degree.{largest, degreeOutcome}
+use Rattle.polynomial.specs.Degree.{degreeOutcome}
 use Rattle.matrix.specs.Matrix.{eliminated}
 use Rattle.matrix.specs.Rank.{rankOutcome}
 use Rattle.varint.specs.Varint.{groups, varint, encodeVarint}

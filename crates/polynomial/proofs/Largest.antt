@@ -8,14 +8,14 @@ use Prim.Native.Nat.{ℕ, _≤_, max}
 use native.Mathlib.Decide.{decLt}
 use native.Mathlib.Omega.{arith}
 use borrow.Author.Tests.{not-true}
-use Rattle.cube.specs.NumberLists.{isEmpty}
+use Rattle.cube.specs.NumberLists.{isEmpty, largest}
 use Rattle.cube.specs.Cube.{weight}
 use Rattle.cube.specs.Mask.{member}
 use Rattle.cube.proofs.Masks.{member-points, points-inside}
 use Rattle.refusal.specs.Outcome.{accepted}
 use Rattle.refusal.proofs.Verdicts.{passed-all, accepted-passes}
 use Rattle.polynomial.specs.Polynomial.{HasDegree}
-use Rattle.polynomial.specs.Degree.{exponents, largest, degreeChecks, degreeOutcome}
+use Rattle.polynomial.specs.Degree.{exponents, degreeChecks, degreeOutcome}
 
 -- no member has more than the largest
 largest-most : (t : ℕ → ℕ) (x : ℕ) (xs : List ℕ) → List·Memᴰ x xs → t x ≤ largest t xs

@@ -1,6 +1,5 @@
 -- Degree: docs/SPECIFICATION.md, 'Degree'.
 --   exponents b        the exponents whose coefficient in b is 1, rising
---   largest t xs       the largest t of a member of xs, 0 where there is none
 --   degreeChecks n b   the checks of Degree, in order
 --   degreeOutcome n b  what Degree answers, lent the coefficients b
 --   outcomeOf r        the outcome that an answer states
@@ -8,8 +7,8 @@
 use mathlib.Core.Path.{_≡_}
 use mathlib.Core.Bool.{not}
 use mathlib.Core.List.{List, [], _∷_, _++_}
-use Prim.Native.Nat.{ℕ, max}
-use Rattle.cube.specs.NumberLists.{isEmpty}
+use Prim.Native.Nat.{ℕ}
+use Rattle.cube.specs.NumberLists.{largest, isEmpty}
 use Rattle.cube.specs.Cube.{weight}
 use Rattle.cube.specs.Mask.{marked}
 use Rattle.refusal.specs.Refusal.{numberOf}
@@ -22,11 +21,6 @@ use Rattle.polynomial.specs.declared.degree.DegreeAnswer.the-variants.{R
 -- the exponents whose coefficient is 1
 abbrev pub exponents : List ℕ → List ℕ
 exponents b = marked b
-
--- the largest t of a member
-unfoldable pub largest : (ℕ → ℕ) → List ℕ → ℕ
-largest t [] = 0
-largest t (x ∷ xs) = max (t x) (largest t xs)
 
 -- the checks of Convert, and then that some coefficient is 1
 abbrev pub degreeChecks : ℕ → List ℕ → List Check

@@ -2,9 +2,10 @@
 ghost use mathlib.Core.Path.{_≡_};
 ghost use Prim.Native.Nat.{max};
 ghost use lib.ListN.{length};
+ghost use Rattle.cube.specs.NumberLists.{largest};
 ghost use Rattle.cube.specs.Cube.{weight as weightOf};
 ghost use Rattle.refusal.specs.Verdict.{verdict};
-ghost use Rattle.polynomial.specs.Degree.{exponents, largest, degreeChecks, DegreeContract};
+ghost use Rattle.polynomial.specs.Degree.{exponents, degreeChecks, DegreeContract};
 use crate::convert::convert_checks;
 use cube::Exponent;
 use cube::POINTS;

@@ -5,13 +5,14 @@ use mathlib.Core.List.{List}
 use Prim.Native.Nat.{ℕ}
 use borrow.Author.Tests.{eqb-true}
 use lib.ListN.{length}
+use Rattle.cube.specs.NumberLists.{largest}
 use Rattle.cube.specs.Cube.{weight}
 use Rattle.refusal.specs.Outcome.{accepted}
 use Rattle.refusal.specs.declared.Refusal.{Refusal}
 use Rattle.refusal.specs.Verdict.{verdict}
 use Rattle.refusal.specs.declared.verdict.Verdict.the-variants as verdicts
 use Rattle.refusal.proofs.Verdicts.{passed-all, verdict-refuses, verdict-passes}
-use Rattle.polynomial.specs.Degree.{exponents, largest, degreeChecks, degreeOutcome, DegreeContract}
+use Rattle.polynomial.specs.Degree.{exponents, degreeChecks, degreeOutcome, DegreeContract}
 use Rattle.polynomial.specs.declared.degree.DegreeAnswer.the-variants.{Refused, Accepted}
 use Rattle.polynomial.proofs.degree.degree.Statement.{statement}
 use Rattle.polynomial.proofs.degree.degree.Tie as tie

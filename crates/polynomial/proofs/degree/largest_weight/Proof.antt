@@ -6,9 +6,10 @@ use Prim.Native.Nat.{ℕ, _+_, _-_, _≤_, _<_, max}
 use lib.ListN.{length, getD}
 use native.Mathlib.Omega.{arith}
 use borrow.Author.Needs.{needs}
+use Rattle.cube.specs.NumberLists.{largest}
 use Rattle.cube.specs.Cube.{weight}
 use Rattle.cube.proofs.Masks.{markedFrom, marked-all, marked-here, marked-later, marked-none}
-use Rattle.polynomial.specs.Degree.{exponents, largest}
+use Rattle.polynomial.specs.Degree.{exponents}
 use Rattle.polynomial.proofs.degree.largest_weight.Statement.{statement}
 use Rattle.polynomial.proofs.degree.largest_weight.Tie as tie
 
