@@ -1,4 +1,3 @@
 -- Laws of the answers of exported operations.
 pub mod Flat
 pub mod Front
-pub mod TapsRead

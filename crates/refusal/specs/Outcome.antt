@@ -3,6 +3,7 @@
 --   Check               a test of the inputs, and the refusal where it fails: `test otherwise refusal`
 --   after c o           the outcome o after the check c: refused where its test fails
 --   checked cs o        the outcome o after the checks cs: refused by the first broken check, in order
+--   mapped f o          the outcome o, with what f makes of the accepted values
 --   left o old new      a lent buffer at exit: `new` where the outcome accepts, as at entry where it refuses
 --   leftBy o old f      the same, where the accepted values give what is new
 use mathlib.Core.Bool.{Bool, true, false}
@@ -30,6 +31,11 @@ after (false otherwise r) o = refused (numberOf r)
 abbrev pub checked : {A : Type 0} → List Check → Outcome A → Outcome A
 checked [] o = o
 checked (c ∷ cs) o = after c (checked cs o)
+
+-- what f makes of the accepted values
+abbrev pub mapped : {A : Type 0} {B : Type 0} → (A → B) → Outcome A → Outcome B
+mapped f (refused k) = refused k
+mapped f (accepted a) = accepted (f a)
 
 -- a refusal leaves a buffer as it was
 abbrev pub left : {A : Type 0} {B : Type 0} → Outcome A → B → B → B

@@ -5,7 +5,7 @@
 --   read-filter      what an acceptance by Read shows
 --   read-refused     what a refusal shows
 --   refused-sheet    the sheet of a file that is refused
-use mathlib.Core.Path.{_≡_, refl, sym, ap, _∙_}
+use mathlib.Core.Path.{_≡_, sym, ap, _∙_}
 use mathlib.Core.List.{List, [], _∷_}
 use Prim.Native.Nat.{ℕ, suc, _<_}
 use native.Mathlib.Omega.{arith}
@@ -13,6 +13,7 @@ use lib.ListN.{length, getD}
 use Rattle.refusal.specs.Refusal.{numberOf}
 use Rattle.refusal.specs.Outcome.{Outcome, refused, accepted, leftBy}
 use Rattle.refusal.specs.declared.Refusal.{Refusal}
+use Rattle.refusal.proofs.Outcomes.{mapped-refused, mapped-accepted}
 use Rattle.cube.specs.NumberLists.{lists}
 use Rattle.cube.specs.Mask.{mask}
 use Rattle.order.specs.BuiltIn.{graded}
@@ -20,7 +21,7 @@ use Rattle.filter_file.specs.declared.read.ReadAnswer.{ReadAnswer}
 use Rattle.filter_file.specs.declared.read.ReadAnswer.the-variants.{Accepted, Refused}
 use Rattle.filter_file.specs.File.{Contents}
 use Rattle.varint.specs.Varint.{Bytes}
-use Rattle.filter_file.specs.Read.{readOutcome, nOf, outcomeOf, ReadContract}
+use Rattle.filter_file.specs.Read.{readOutcome, outcomeOf, ReadContract}
 use Rattle.immunity.specs.Judgement.{judged}
 use Rattle.judge.specs.Judge.{JudgeAccepts}
 use Rattle.judge.proofs.Passed.{judge-accepts}
@@ -62,29 +63,19 @@ filter-sheet file n s f x = rw (x .n-is, x .set-is, x .table-is) (sym (ap sheetO
 
 -- what an acceptance by Read shows
 pub read-filter : (o : Outcome Contents) (r : ReadAnswer) (s₀ s f₀ f : List ℕ) → ReadContract o r s₀ s f₀ f → (n : ℕ) → r ≡ Accepted n → ReadAs o n s f
-read-filter o r s₀ s f₀ f h n e = go o refl
-  where
-    go : (x : Outcome Contents) → o ≡ x → ReadAs o n s f
-    go (refused k) q =
-        let z : _≡_ {A = ℕ} 0 1 = ap (λ y. leftBy y 0 (λ m. 1)) (sym (ap nOf q) ∙ sym (h .answer) ∙ ap outcomeOf e) in
-        absurd (omega arith)
-    go (accepted c) q = record {
+read-filter o r s₀ s f₀ f h n e =
+    let (c, is, taps) = mapped-accepted (λ c. c .n) o (sym (h .answer) ∙ ap outcomeOf e) in
+    record {
       contents = c;
-      is = q;
-      n-is = ap (λ y. leftBy y 0 (λ m. m)) (ap outcomeOf (sym e) ∙ h .answer ∙ ap nOf q);
-      set-is = h .set ∙ ap (λ y. leftBy y s₀ (λ c. mask (lists (c .set)))) q;
-      table-is = h .table ∙ ap (λ y. leftBy y f₀ (λ c. mask (lists (c .table)))) q;
+      is = is;
+      n-is = sym taps;
+      set-is = h .set ∙ ap (λ y. leftBy y s₀ (λ c. mask (lists (c .set)))) is;
+      table-is = h .table ∙ ap (λ y. leftBy y f₀ (λ c. mask (lists (c .table)))) is;
     }
 
 -- what a refusal shows
 pub read-refused : (o : Outcome Contents) (r : ReadAnswer) (s₀ s f₀ f : List ℕ) → ReadContract o r s₀ s f₀ f → (x : Refusal) → r ≡ Refused x → o ≡ refused (numberOf x)
-read-refused o r s₀ s f₀ f h x e = go o refl
-  where
-    go : (y : Outcome Contents) → o ≡ y → o ≡ refused (numberOf x)
-    go (refused k) q = q ∙ sym (cc (ap outcomeOf (sym e) ∙ h .answer ∙ ap nOf q))
-    go (accepted c) q =
-        let z : _≡_ {A = ℕ} 0 1 = ap (λ y. leftBy y 0 (λ m. 1)) (ap outcomeOf (sym e) ∙ h .answer ∙ ap nOf q) in
-        absurd (omega arith)
+read-refused o r s₀ s f₀ f h x e = mapped-refused (λ c. c .n) o (sym (h .answer) ∙ ap outcomeOf e)
 
 -- the sheet of a file that is refused
 pub refused-sheet : (file : List ℕ) (m k : ℕ) → readOutcome 512 512 file ≡ refused m → k ≡ m → refusedLine k ≡ sheet file

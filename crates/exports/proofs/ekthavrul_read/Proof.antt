@@ -2,9 +2,9 @@ use mathlib.Core.Path.{sym, ap, _∙_}
 use borrow.Author.Needs.{needs}
 use lib.ListN.{length}
 use Rattle.refusal.specs.Outcome.{leftBy}
+use Rattle.refusal.proofs.Outcomes.{mapped-refused, mapped-accepted}
 use Rattle.filter_file.specs.Read.{readOutcome, outcomeOf}
 use Rattle.exports.specs.Status.{statusOf}
-use Rattle.exports.proofs.TapsRead.{n-refused, n-accepted}
 use Rattle.exports.proofs.ekthavrul_read.Statement.{statement}
 use Rattle.exports.proofs.ekthavrul_read.Tie as tie
 
@@ -14,7 +14,7 @@ returns c =
     let r = x .before .before .before .before .before .before in
     let s = r .before .before .before .before .before .before .args in
     let o = readOutcome (length (s .set .now)) (length (s .table .now)) (s .file .now) in
-    let e = n-refused o _ (ap outcomeOf (sym (x .x .given .1)) ∙ r .read .ensures .answer) in
+    let e = mapped-refused (λ c. c .n) o (sym (r .read .ensures .answer) ∙ ap outcomeOf (x .x .given .1)) in
     record {
       status = c .number .ensures ∙ sym (ap statusOf e);
       set = r .read .ensures .set;
@@ -28,8 +28,13 @@ returns-2 c =
     let r = x .before .before .before .before .before .before in
     let s = r .before .before .before .before .before .before .args in
     let o = readOutcome (length (s .set .now)) (length (s .table .now)) (s .file .now) in
-    let e = n-accepted o _ (s .n .now) (ap outcomeOf (sym (x .taps .given .1)) ∙ r .read .ensures .answer) in
-    record { status = e .0; set = r .read .ensures .set; table = r .read .ensures .table; taps = e .1 }
+    let (_, e, taps) = mapped-accepted (λ c. c .n) o (sym (r .read .ensures .answer) ∙ ap outcomeOf (x .taps .given .1)) in
+    record {
+      status = sym (ap statusOf e);
+      set = r .read .ensures .set;
+      table = r .read .ensures .table;
+      taps = sym (ap (λ o. leftBy o (s .n .now) (λ c. c .n)) e ∙ taps);
+    }
 
 pub ekthavrul-read-spec : {M : Type 1} → statement M
 ekthavrul-read-spec =
