@@ -4,6 +4,7 @@
 --   with-ones-mask     zeros that are marked at numbers are the mask of the numbers
 --   select-same        tests that agree on a list keep the same of it
 --   points-mask        its points are the numbers below 512 that pass
+--   mask-points        the mask of the points of a well formed buffer of 512 bytes is the buffer
 use mathlib.Core.Path.{_≡_, refl, sym, ap, _∙_}
 use mathlib.Core.Logic.{_⊎_, inl, inr}
 use mathlib.Core.Bool.{Bool, true, false, _||_}
@@ -18,7 +19,7 @@ use borrow.Author.Tests.{eqb-true, eqb-false}
 use Rattle.cube.specs.NumberLists.{below, consIf, select, lists}
 use Rattle.cube.specs.Cube.{size}
 use Rattle.cube.specs.Mask.{wellFormed, member, points, byte, withOnes, mask}
-use Rattle.cube.proofs.Masks.{member-from, length-from, value-at, bytes-formed, mask-member}
+use Rattle.cube.proofs.Masks.{member-from, length-from, value-at, byte-small, bytes-formed, byte-member, mask-member, lists-marked}
 
 -- it has 512 bytes
 pub length-mask : (t : ℕ → Bool) → length (mask t) ≡ 512
@@ -97,3 +98,9 @@ select-same t r (x ∷ xs) h = rw (h x (List·Memᴰ·head refl)) (ap (consIf (r
 -- its points are the numbers below 512 that pass
 pub points-mask : (t : ℕ → Bool) → points (mask t) ≡ select t (below 512)
 points-mask t = ap (λ k. select (member (mask t)) (below k)) (length-mask t) ∙ select-same (member (mask t)) t (below 512) (λ u m. mask-member t u (omega (arith, member-from 0 512 u .0 m .1)))
+
+-- the mask of the points of a well formed buffer of 512 bytes is the buffer
+pub mask-points : (n : ℕ) (b : List ℕ) → length b ≡ 512 → wellFormed n b ≡ true → mask (lists (points b)) ≡ b
+mask-points n b long formed = ext-getD 0 (mask (lists (points b))) b (length-mask (lists (points b)) ∙ sym long) (λ a l.
+    value-at (λ u. byte (lists (points b) u)) 512 a 0 (omega (arith, length-mask (lists (points b))))
+    ∙ ap byte (lists-marked b a) ∙ byte-member b a (byte-small (size n) b a formed))

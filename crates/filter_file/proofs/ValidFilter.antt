@@ -1,9 +1,11 @@
--- What obeys the rules of a filter file is a filter.
+-- What obeys the rules of a filter file is a filter, and back.
 --   size-small     N is at most 512
 --   valid-filter   the masks of its lists are a filter
 --   valid-some     and the set has a point
-use mathlib.Core.Path.{_≡_, refl, ap, _∙_}
-use mathlib.Core.Bool.{false}
+--   valid-again    and what their file says is it again
+--   filter-valid   what the file of a filter whose set has a point says obeys the rules
+use mathlib.Core.Path.{_≡_, refl, sym, ap, _∙_}
+use mathlib.Core.Bool.{false, false≢true}
 use mathlib.Core.List.{List, [], _∷_}
 use Prim.Native.Nat.{ℕ, _≤_}
 use native.Mathlib.Omega.{arith}
@@ -15,8 +17,9 @@ use Rattle.cube.specs.Mask.{points, mask}
 use Rattle.cube.proofs.Taps.{taps-range}
 use Rattle.cube.proofs.MaskOf.{length-mask}
 use Rattle.filter.specs.Filter.{Filter}
-use Rattle.point_list.proofs.ListMasks.{points-listed, listed-formed}
+use Rattle.point_list.proofs.ListMasks.{points-listed, listed-formed, points-rise}
 use Rattle.filter_file.specs.File.{Contents, Valid}
+use Rattle.filter_file.specs.Write.{contentsOf}
 
 -- N is at most 512
 pub size-small : {c : Contents} → Valid c → size (c .n) ≤ 512
@@ -41,3 +44,22 @@ some-listed (p ∷ ps) l = refl
 -- the set has a point
 pub valid-some : {c : Contents} → Valid c → isEmpty (points (mask (lists (c .set)))) ≡ false
 valid-some {c} v = ap isEmpty (points-listed (size (c .n)) (c .set) (size-small v) (v .set)) ∙ some-listed (c .set) (v .some)
+
+-- what their file says is it again
+pub valid-again : {c : Contents} → Valid c → contentsOf (c .n) (mask (lists (c .set))) (mask (lists (c .table))) ≡ c
+valid-again {c} v = rw (points-listed (size (c .n)) (c .set) (size-small v) (v .set), points-listed (size (c .n)) (c .table) (size-small v) (v .table))
+
+-- a list that is not empty has a member
+listed-some : (ps : List ℕ) → isEmpty ps ≡ false → 1 ≤ length ps
+unfolding isEmpty
+listed-some [] e = absurd (false≢true (sym e))
+listed-some (p ∷ ps) e = omega arith
+
+-- what the file of a filter whose set has a point says obeys the rules
+pub filter-valid : {n : ℕ} {s f : List ℕ} → Filter n s f → isEmpty (points s) ≡ false → Valid (contentsOf n s f)
+filter-valid {n} {s} {f} h some = record {
+  tapped = h .tapped;
+  some = listed-some (points s) some;
+  set = points-rise n s (h .set-formed);
+  table = points-rise n f (h .table-formed);
+}

@@ -2,3 +2,4 @@
 pub mod Fault
 pub mod File
 pub mod Read
+pub mod Write

@@ -5,4 +5,5 @@ pub mod Encoded
 pub mod Faults
 pub mod Lengths
 pub mod ListMasks
+pub mod Passed
 pub mod PointsDrawn

@@ -1,19 +1,21 @@
 -- The mask of a list of rising points, and what it says again.
 --   points-listed   the points of the mask are the list
 --   listed-formed   the mask is well formed
+--   points-rise     the points of a well formed mask rise and are below N
 use mathlib.Core.Path.{_≡_, refl, _∙_}
 use mathlib.Core.Bool.{Bool, true, false, _||_, false≢true}
-use mathlib.Core.List.{List, [], _∷_}
+use mathlib.Core.List.{List, [], _∷_, List·Memᴰ·head, List·Memᴰ·tail}
 use Prim.Native.Nat.{ℕ, zero, suc, _+_, _≤_, _<_}
 use native.Mathlib.Omega.{arith}
 use native.Mathlib.Decide.{decLt}
 use native.Mathlib.Numerals.{add-one}
 use lib.Dec.{eqb}
+use lib.ListN.{length}
 use borrow.Author.Tests.{eqb-true, eq-eqb, ne-eqb}
-use Rattle.cube.specs.NumberLists.{upFrom, below, consIf, select, lists}
+use Rattle.cube.specs.NumberLists.{upFrom, below, consIf, select, lists, Inside}
 use Rattle.cube.specs.Cube.{size}
-use Rattle.cube.specs.Mask.{wellFormed, points, mask}
-use Rattle.cube.proofs.Masks.{member-from}
+use Rattle.cube.specs.Mask.{wellFormed, member, points, mask}
+use Rattle.cube.proofs.Masks.{member-from, points-inside}
 use Rattle.cube.proofs.MaskOf.{select-same, points-mask, mask-well-formed}
 use Rattle.point_list.specs.PointList.{RisingFrom}
 
@@ -65,3 +67,23 @@ points-listed m ps l r = points-mask (lists ps) ∙ select-listed 512 0 512 ps (
 -- the mask is well formed
 pub listed-formed : (n : ℕ) (ps : List ℕ) → RisingFrom 0 (size n) ps → wellFormed n (mask (lists ps)) ≡ true
 listed-formed n ps r = mask-well-formed n (lists ps) (λ u e. listed-between 0 (size n) ps u r e .1)
+
+-- points that rise from a number on rise from a smaller one on
+rising-lower : (low low′ m : ℕ) (ps : List ℕ) → low′ ≤ low → RisingFrom low m ps → RisingFrom low′ m ps
+rising-lower low low′ m [] l r = tt
+rising-lower low low′ m (p ∷ ps) l r = (omega (arith, r .0), r .1, r .2)
+
+-- what a test keeps of the numbers from one on rises
+selected-rise : (t : ℕ → Bool) (m u k : ℕ) → Inside m (select t (upFrom u k)) → RisingFrom u m (select t (upFrom u k))
+unfolding upFrom select consIf
+selected-rise t m u zero inside = tt
+selected-rise t m u (suc k) inside = go (t u) inside (selected-rise t m (suc u) k)
+  where
+    go : (b : Bool) → Inside m (consIf b u (select t (upFrom (suc u) k))) → (Inside m (select t (upFrom (suc u) k)) → RisingFrom (suc u) m (select t (upFrom (suc u) k)))
+        → RisingFrom u m (consIf b u (select t (upFrom (suc u) k)))
+    go true i later = (omega arith, i u (List·Memᴰ·head refl), rw add-one (later (λ v h. i v (List·Memᴰ·tail h))))
+    go false i later = rising-lower (suc u) u m (select t (upFrom (suc u) k)) (omega arith) (later i)
+
+-- the points of a well formed mask rise and are below N
+pub points-rise : (n : ℕ) (b : List ℕ) → wellFormed n b ≡ true → RisingFrom 0 (size n) (points b)
+points-rise n b formed = selected-rise (member b) (size n) 0 (length b) (points-inside n b formed)

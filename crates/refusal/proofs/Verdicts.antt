@@ -11,9 +11,10 @@
 --   passed-all        checks that pass all hold
 --   all-passed        checks that all hold pass
 --   accepted-passes   an outcome that accepts after checks has passed them
+--   refused-either    one that refuses after checks: a check is broken, or they pass and what follows refuses
 --   refused-among     the refusal of a broken check is one of the list's
-use mathlib.Core.Path.{_≡_, refl, _∙_}
-use mathlib.Core.Logic.{_↔_}
+use mathlib.Core.Path.{_≡_, refl, sym, _∙_}
+use mathlib.Core.Logic.{_↔_, _⊎_, inl, inr}
 use mathlib.Core.Bool.{Bool, true, false, _&&_, and-eq-true-iff, false≢true}
 use mathlib.Core.List.{List, [], _∷_, _++_}
 use Prim.Native.Nat.{ℕ}
@@ -96,6 +97,15 @@ unfolding alsoOf
 accepted-passes [] o a e = (refl, e)
 accepted-passes (true otherwise r ∷ cs) o a e = accepted-passes cs o a e
 accepted-passes (false otherwise r ∷ cs) o a e = absurd (not-both e)
+
+-- one that refuses after checks: a check is broken, or they pass and what follows refuses
+pub refused-either : {A : Type 0} (cs : List Check) (o : Outcome A) (k : ℕ) → checked cs o ≡ refused k
+    → ((x : Refusal) × (verdict cs ≡ Refused x) × (numberOf x ≡ k)) ⊎ ((verdict cs ≡ Passed) × (o ≡ refused k))
+refused-either cs o k e = go (verdict cs) refl
+  where
+    go : (v : Verdict) → verdict cs ≡ v → ((x : Refusal) × (verdict cs ≡ Refused x) × (numberOf x ≡ k)) ⊎ ((verdict cs ≡ Passed) × (o ≡ refused k))
+    go (Refused x) q = let same : refused (numberOf x) ≡ refused k = sym (verdict-refuses cs o q) ∙ e in inl (x, q, cc same)
+    go Passed q = inr (q, sym (verdict-passes cs o q) ∙ e)
 
 -- the refusal of a broken check is one of the list's
 pub refused-among : (p : Refusal → Bool) (cs : List Check) {x : Refusal} → every p cs ≡ true → verdict cs ≡ Refused x → p x ≡ true

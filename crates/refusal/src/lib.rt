@@ -29,6 +29,8 @@ pub enum Refusal {
     Side,
     // 12: the ranks of the set and of the part differ.
     RanksDiffer,
+    // 13: the output is shorter than the file.
+    ShortOutput,
 }
 
 // The number of a refusal.
@@ -48,5 +50,6 @@ pub fn number(r: Refusal) -> u8
         Refusal::Degree => 10,
         Refusal::Side => 11,
         Refusal::RanksDiffer => 12,
+        Refusal::ShortOutput => 13,
     }
 }

@@ -3,8 +3,12 @@
 --   spells-both       one after the other
 --   varint-decoded    a number that is read was encoded, and is below 2 to the power 14
 --   varint-encoded    a number below 2 to the power 14 that is encoded is read again
---   varint-length     it has at most two bytes
-use mathlib.Core.Path.{_≡_, refl, sym, _∙_}
+--   varint-short      a number below 128 has one byte
+--   varint-long       another has two
+--   varint-length     a number has at most two bytes
+--   varint-bytes      those of a number below 2 to the power 14 are bytes
+--   bytes-append      bytes after bytes are bytes
+use mathlib.Core.Path.{_≡_, refl, sym, ap, _∙_}
 use mathlib.Core.Bool.{Bool, true, false}
 use mathlib.Core.List.{List, [], _∷_, _++_, append-assoc}
 use Prim.Native.Nat.{ℕ, _+_, _-_, _*_, _/_, _%_, _≤_, _<_}
@@ -17,7 +21,7 @@ use Rattle.refusal.specs.declared.Refusal.the-variants.{NumberForm}
 use Rattle.refusal.specs.Outcome.{accepted, _otherwise_}
 use Rattle.refusal.proofs.Outcomes.{not-both, check-passed}
 use Rattle.varint.specs.Drawn.{_leaving_}
-use Rattle.varint.specs.Varint.{secondGroup, groups, varint, encodeVarint, Bytes, shortest}
+use Rattle.varint.specs.Varint.{secondGroup, groups, varint, encodeVarint, Bytes}
 
 -- bytes that begin with others, and what remains after those
 pub record Spells (s b rest : List ℕ) : Type 0 where
@@ -68,11 +72,31 @@ varint-encoded v rest h = elim (decLt v 128) [
       rw (le-ltb v 128 (omega arith), le-ltb (128 + v % 128) 128 (omega arith), le-leb 1 (v / 128) (omega arith), lt-ltb (v / 128) 128 (omega arith), e)
 ]
 
+-- a number below 128 has one byte
+pub varint-short : (v : ℕ) → v < 128 → encodeVarint v ≡ v ∷ []
+unfolding encodeVarint
+varint-short v l = rw (lt-ltb v 128 l)
+
+-- another has two
+pub varint-long : (v : ℕ) → 128 ≤ v → encodeVarint v ≡ (128 + v % 128) ∷ (v / 128) ∷ []
+unfolding encodeVarint
+varint-long v l = rw (le-ltb v 128 l)
+
 -- a number has at most two bytes
 pub varint-length : (v : ℕ) → length (encodeVarint v) ≤ 2
-unfolding encodeVarint
-varint-length v = go (ltb v 128)
-  where
-    go : (t : Bool) → length (shortest t v) ≤ 2
-    go true = omega arith
-    go false = omega arith
+varint-length v = elim (decLt v 128) [
+  | yes l ↦ omega (arith, ap length (varint-short v l))
+  | no g ↦ omega (arith, ap length (varint-long v (omega arith)))
+]
+
+-- those of a number below 2 to the power 14 are bytes
+pub varint-bytes : (v : ℕ) → v < 16384 → Bytes (encodeVarint v)
+varint-bytes v h = elim (decLt v 128) [
+  | yes l ↦ rw (varint-short v l) (omega arith, tt)
+  | no g ↦ rw (varint-long v (omega arith)) (omega arith, (omega arith, tt))
+]
+
+-- bytes after bytes are bytes
+pub bytes-append : (s t : List ℕ) → Bytes s → Bytes t → Bytes (s ++ t)
+bytes-append [] t h k = k
+bytes-append (x ∷ s) t h k = (h .0, bytes-append s t (h .1) k)

@@ -1,9 +1,10 @@
 // Varints (LEB128) of one or two groups of seven bits, in the shortest form. The contract of the work calls them house
 // numbers: docs/SPECIFICATION.md, 'Terms' and 'Filter file'.
 ghost use mathlib.Core.Path.{_≡_};
-ghost use Prim.Native.Nat.{_<_};
-ghost use lib.ListN.{drop};
-ghost use Rattle.varint.specs.Varint.{varint, outcomeOf};
+ghost use Prim.Native.Nat.{_+_, _≤_, _<_};
+ghost use lib.ListN.{length, drop};
+ghost use Rattle.buffer.specs.Appends.{Appends};
+ghost use Rattle.varint.specs.Varint.{varint, encodeVarint, outcomeOf};
 use refusal::Refusal;
 
 // What stands at a place of a file: a number, with the place after it, or why there is none.
@@ -47,4 +48,19 @@ pub fn varint_at(file: &[u8], at: usize) -> Varint
         value: first - 128 + 128 * second,
         next: at + 2,
     }
+}
+
+// A number below 2 to the power 14 is written from place `at` on; the result is the place behind it. It is `pub` for the
+// crates that write lists and files.
+pub fn append_varint(output: &mut [u8], at: usize, value: usize) -> usize
+    requires { ⌜ (value < 16384) × (at + length (encodeVarint value) ≤ length (now output)) ⌝ }
+    ensures { λ r. ⌜ Appends (encodeVarint value) (now (output .entry)) (now (output .exit)) at r ⌝ }
+{
+    if value < 128 {
+        output[at] = value as u8;
+        return at + 1;
+    }
+    output[at] = (128 + value % 128) as u8;
+    output[at + 1] = (value / 128) as u8;
+    at + 2
 }

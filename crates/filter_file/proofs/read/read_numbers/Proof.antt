@@ -15,7 +15,7 @@ use Rattle.file_reader.specs.Progress.{numbers, outcomeOf, beside}
 use Rattle.filter_file.specs.File.{contents}
 use Rattle.filter_file.specs.Read.{readOutcome}
 use Rattle.filter_file.proofs.Marked.{zeros, numbers-refused, numbers-read}
-use Rattle.filter_file.proofs.Answers.{read-refused, read-passes, read-lengths}
+use Rattle.filter_file.proofs.ReadAnswers.{read-refused, read-passes, read-lengths}
 use Rattle.filter_file.proofs.read.read_numbers.Statement.{statement}
 use Rattle.filter_file.proofs.read.read_numbers.Tie as tie
 
