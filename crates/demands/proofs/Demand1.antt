@@ -3,11 +3,11 @@
 use mathlib.Core.Logic.{_≢_}
 use mathlib.Core.Path.{_≡_, refl, sym, ap, _∙_}
 use mathlib.Core.Bool.{Bool, true, false}
-use mathlib.Core.List.{List, []}
+use mathlib.Core.List.{List, [], _++_}
 use Prim.Native.Nat.{ℕ, _≤_}
 use native.Mathlib.Omega.{arith}
 use lib.Dec.{eqb}
-use lib.ListN.{length}
+use lib.ListN.{length, drop}
 use borrow.Author.Tests.{eqb-true, eq-eqb, ne-eqb}
 use Rattle.refusal.specs.Outcome.{Outcome, refused, accepted, left, leftBy}
 use Rattle.refusal.proofs.Outcomes.{not-both}
@@ -82,6 +82,7 @@ demand1 = record {
   read-judged = λ s c h e. let (_, v) = contents-decoded s h e in
       (judged graded (c .n) (mask (lists (c .set))) (mask (lists (c .table))), judge-accepts graded _ _ _ (valid-filter v) (valid-some v));
   read-keeps = λ o r s s′ f f′ k h e. (h .set ∙ ap (λ x. leftBy x s (λ c. mask (lists (c .set)))) e, h .table ∙ ap (λ x. leftBy x f (λ c. mask (lists (c .table)))) e);
+  write-keeps = λ o r out out′ k h e. h .output ∙ ap (λ x. leftBy x out (λ file. file ++ drop (length file) out)) e;
   convert-keeps = λ n b b′ r k h e. h .leaves ∙ ap (λ x. left x b (converted n b)) e;
   rank-keeps = λ o ws ws′ r k h e. h .leaves ∙ ap (λ x. left x ws (zeros (length ws))) e;
   judge-keeps = λ o ws ws′ w w′ r k h e. (h .leaves ∙ ap (λ x. left x ws (zeros (length ws))) e, h .leaves-witnesses ∙ ap (λ x. leftBy x w (λ j. j .witnesses)) e);

@@ -1,4 +1,4 @@
--- The demands and the sentences beside them hold, and so do the starred cases.
+-- The demands, the sentences and the promise of Write beside them hold, and so do the starred cases.
 pub mod Cases
 pub mod Demand1
 pub mod Demand2
@@ -11,3 +11,4 @@ pub mod CertifyWords
 pub mod HandOverWords
 pub mod SheetWords
 pub mod JudgementWords
+pub mod Write

@@ -2,6 +2,7 @@
 --   rank-refuses      what Rank refuses
 --   judge-refuses     what Judge refuses
 --   certify-refuses   what Certify refuses
+--   write-refuses     what Write refuses
 use mathlib.Core.Path.{_≡_, sym, _∙_, subst}
 use mathlib.Core.Logic.{_↔_}
 use mathlib.Core.Bool.{true, not}
@@ -24,11 +25,13 @@ use Rattle.matrix.specs.Matrix.{rankOf}
 use Rattle.matrix.specs.Rank.{ranked, rankChecks, rankOutcome}
 use Rattle.matrix.proofs.RankOf.{rank-of}
 use Rattle.filter.specs.Part.{part}
+use Rattle.filter_file.specs.Write.{fileOf, writeInputs, roomFor, writeOutcome}
 use Rattle.immunity.specs.Judgement.{EqualRanks, differs, judged}
 use Rattle.immunity.specs.Certificate.{certificate}
 use Rattle.judge.specs.Judge.{judgeChecks, judgeOutcome}
 use Rattle.certify.specs.Certify.{certifyInputs, ranksEqual, certifyOutcome}
 use Rattle.demands.specs.JudgementWords.{SameRank, rankRules, judgeRules, certifyRules}
+use Rattle.demands.specs.Write.{writeRules}
 
 -- two numbers are equal
 equal-says : (a b : ℕ) → (eqb a b ≡ true) ↔ (a ≡ b)
@@ -74,3 +77,10 @@ certify-refuses n s f side d m l k = refused-first (certificate graded n s f sid
     {cs = certifyInputs s f n side d m l ++ ranksEqual graded s f n side d} {rs = certifyRules s f n side d m l}
     (equal-says (length s) 512 also equal-says (length f) 512 also equal-says m 8192 also equal-says l 4096 also taps-range n
     also formed-says n s also formed-says n f also has-point-says s also most-says d n also most-says side 1 also equal-ranks-say n d s f side also nothing)
+
+-- what Write refuses
+pub write-refuses : (n : ℕ) (s f : List ℕ) (m k : ℕ) → (writeOutcome s f n m ≡ refused k) ↔ FirstBroken (writeRules s f n m) k
+unfolding writeOutcome
+write-refuses n s f m k = refused-first (fileOf n s f) k {cs = writeInputs s f n ++ roomFor (length (fileOf n s f)) m} {rs = writeRules s f n m}
+    (equal-says (length s) 512 also equal-says (length f) 512 also taps-range n also formed-says n s also formed-says n f also has-point-says s
+    also most-says (length (fileOf n s f)) m also nothing)

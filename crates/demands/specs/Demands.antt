@@ -28,10 +28,12 @@ use Rattle.matrix.specs.Matrix.{eliminated}
 use Rattle.matrix.specs.declared.rank.RankAnswer.{RankAnswer}
 use Rattle.matrix.specs.Rank.{rankOutcome, RankContract}
 use Rattle.filter_file.specs.declared.read.ReadAnswer.{ReadAnswer}
+use Rattle.filter_file.specs.declared.write.WriteAnswer.{WriteAnswer}
 use Rattle.filter_file.specs.File.{Contents, encode, Valid}
 use Rattle.varint.specs.Varint.{Bytes}
 use Rattle.filter_file.specs.Fault.{FileFault}
 use Rattle.filter_file.specs.Read.{readOutcome, ReadContract, reading}
+use Rattle.filter_file.specs.Write.{WriteContract}
 use Rattle.judge.specs.declared.JudgeAnswer.{JudgeAnswer}
 use Rattle.certify.specs.declared.CertifyAnswer.{CertifyAnswer}
 use Rattle.filter.specs.Sides.{Sides, ofSide}
@@ -75,6 +77,8 @@ pub record Demand1 : Type 0 where
       → (j : Judgement) × JudgeAccepts graded (c .n) (mask (lists (c .set))) (mask (lists (c .table))) j
   -- a refusal changes none of the lent buffers: of Read,
   pub read-keeps : (o : Outcome Contents) (r : ReadAnswer) (s s′ f f′ : List ℕ) (k : ℕ) → ReadContract o r s s′ f f′ → o ≡ refused k → (s′ ≡ s) × (f′ ≡ f)
+  -- of Write,
+  pub write-keeps : (o : Outcome (List ℕ)) (r : WriteAnswer) (out out′ : List ℕ) (k : ℕ) → WriteContract o r out out′ → o ≡ refused k → out′ ≡ out
   -- of Convert,
   pub convert-keeps : (n : ℕ) (b b′ : List ℕ) (r : ConvertAnswer) (k : ℕ) → ConvertContract n b b′ r → convertOutcome n b ≡ refused k → b′ ≡ b
   -- of Rank,

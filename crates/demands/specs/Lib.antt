@@ -1,4 +1,5 @@
--- The demands on the whole, the sentences on ranks and judgements beside them, and the starred cases.
+-- The demands on the whole, the sentences on ranks and judgements and the promise of Write beside them, and the starred cases.
 pub mod Cases
 pub mod Demands
 pub mod JudgementWords
+pub mod Write
