@@ -1,6 +1,7 @@
 -- What the exported operations answer and leave, where that is more than a status and one number or buffer. Each record is over
 -- the outcome o of its operation.
 --   ReadStatus o ..      the status, both buffers and the number of taps after Read
+--   WriteStatus o ..     the status, the output and the length of the file after Write
 --   RankStatus o ..      the status, the workspace, the rank and the additions after Rank
 --   JudgeStatus o ..     the status, the workspace, the witness buffers and the report after Judge
 --   CertifyStatus o ..   the status, the workspace and the certificate after Certify
@@ -30,6 +31,12 @@ pub record ReadStatus (o : Outcome Contents) (s s′ f f′ : List ℕ) (n n′ 
   pub set : s′ ≡ leftBy o s (λ c. mask (lists (c .set)))
   pub table : f′ ≡ leftBy o f (λ c. mask (lists (c .table)))
   pub taps : n′ ≡ leftBy o n (λ c. c .n)
+
+-- Write: the output and the number for the length at entry and at exit
+pub record WriteStatus (o : Outcome (List ℕ)) (out out′ : List ℕ) (k k′ r : ℕ) : Type 0 where
+  pub status : r ≡ statusOf o
+  pub output : out′ ≡ leftBy o out (λ file. file ++ drop (length file) out)
+  pub long : k′ ≡ leftBy o k length
 
 -- Rank: workspace, rank and additions at entry and at exit
 pub record RankStatus (o : Outcome Ranked) (ws ws′ : List ℕ) (k k′ a a′ r : ℕ) : Type 0 where

@@ -10,14 +10,16 @@ ghost use Rattle.polynomial.specs.Convert.{convertOutcome, convertLeaves};
 ghost use Rattle.polynomial.specs.Degree.{degreeOutcome};
 ghost use Rattle.matrix.specs.Rank.{rankOutcome};
 ghost use Rattle.filter_file.specs.Read.{readOutcome};
+ghost use Rattle.filter_file.specs.Write.{writeOutcome};
 ghost use Rattle.judge.specs.Judge.{judgeOutcome};
 ghost use Rattle.certify.specs.Certify.{certifyOutcome};
 ghost use Rattle.exports.specs.Status.{statusOf};
-ghost use Rattle.exports.specs.Exported.{ReadStatus, RankStatus, JudgeStatus, CertifyStatus, inFront, HandOverStatus};
+ghost use Rattle.exports.specs.Exported.{ReadStatus, WriteStatus, RankStatus, JudgeStatus, CertifyStatus, inFront, HandOverStatus};
 use crate::report::REPORT;
 use crate::report::report_of;
 use certify::CertifyAnswer;
 use filter_file::read::ReadAnswer;
+use filter_file::write::WriteAnswer;
 use judge::Finding;
 use matrix::rank::RankAnswer;
 use polynomial::convert::ConvertAnswer;
@@ -59,6 +61,26 @@ pub extern "C" fn ekthavrul_read(file: &[u8], set: &mut [u8], table: &mut [u8], 
         ReadAnswer::Refused(x) => refusal::number(x),
         ReadAnswer::Accepted(taps) => {
             *n = taps;
+            0
+        }
+    }
+}
+
+// Write: the length of the file goes to `written`.
+#[no_mangle]
+pub extern "C" fn ekthavrul_write(
+    set: &[u8],
+    table: &[u8],
+    n: usize,
+    output: &mut [u8],
+    written: &mut usize,
+) -> u8
+    ensures { λ r. ⌜ WriteStatus (writeOutcome (now (set .entry)) (now (table .entry)) n (length (now (output .entry)))) (now (output .entry)) (now (output .exit)) (now (written .entry)) (now (written .exit)) r ⌝ }
+{
+    match filter_file::write::write(set, table, n, output) {
+        WriteAnswer::Refused(x) => refusal::number(x),
+        WriteAnswer::Accepted(length) => {
+            *written = length;
             0
         }
     }
