@@ -2,7 +2,7 @@
 // combination of each kept row stands in the place of its point, and the sums of the points outside the part.
 use crate::elimination::{Basis, POINTS, Row, add, column_count, eliminate, first_columns, has, prepare};
 use crate::judge::part_mask;
-use independent::judgement::Filter;
+use independent::filter::Filter;
 
 // The kept rows, and for each of them the point in whose place its combination stands.
 struct Combined<'a> {

@@ -2,7 +2,8 @@
 use crate::judge::part_mask;
 use crate::timing::Contender;
 use crate::{c, certify, elimination, judge, m4ri};
-use independent::judgement::{Filter, Judgement};
+use independent::filter::Filter;
+use independent::judgement::Judgement;
 use independent::rank::Ranking;
 use std::time::Duration;
 

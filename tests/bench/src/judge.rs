@@ -4,7 +4,8 @@
 use crate::elimination::{
     Basis, Row, column_count, eliminate, eliminate_tallied, exponents, first_columns, has, prepare, rows_of,
 };
-use independent::judgement::{Filter, Judgement};
+use independent::filter::Filter;
+use independent::judgement::Judgement;
 
 // The mask of the points of the set where the table is the side.
 pub fn part_mask(filter: Filter, side: u8) -> [u8; 512] {

@@ -12,7 +12,7 @@ mod operations; // operations.rs: the operations on one filter, and their times
 mod timing; // timing.rs: several contenders timed in one run
 
 use contenders::{certifies, judges, m4ri_steps, ranks};
-use independent::judgement::Filter;
+use independent::filter::Filter;
 use independent::normal_form::weight;
 use independent::random::Random;
 use independent::samples::{mask_of, pairs};

@@ -1,8 +1,9 @@
 // The operations on one filter, proved and by the independent implementation, each timed.
 use crate::contenders::Certify;
 use crate::timing::{Contender, means, race};
+use independent::filter::Filter;
 use independent::filter_file::{Triple, read};
-use independent::judgement::{Filter, Judgement, certify, hand_over, judge};
+use independent::judgement::{Judgement, certify, hand_over, judge};
 use independent::normal_form::{convert, degree};
 use independent::rank::{Ranking, points_of, rank};
 use independent::sheet::sheet;

@@ -1,16 +1,9 @@
 // Judge, Certify and Hand over: docs/SPECIFICATION.md, 'Judge' to 'Hand over'.
+use crate::filter::Filter;
 use crate::normal_form::within;
 use crate::rank::{columns, points_of, ranking, row, row_span};
-use crate::refusal::{CERTIFICATE, POINTS, Refusal, WORKSPACE, bytes, lengths, require, taps};
+use crate::refusal::{CERTIFICATE, POINTS, Refusal, WORKSPACE, lengths, require, taps};
 use crate::span::{Bits, Span};
-
-// What Judge and Certify are asked about, as it is lent.
-#[derive(Clone, Copy, Debug)]
-pub struct Filter<'a> {
-    pub n: usize,
-    pub set: &'a [u8],
-    pub table: &'a [u8],
-}
 
 // What Judge answers: for each d the ranks of S, part 1 and part 0; the degree, the side and the additions.
 #[derive(Clone, Debug, PartialEq, Eq)]
@@ -25,19 +18,6 @@ impl Filter<'_> {
     // The points of S where the table has this value.
     fn part(&self, side: u8) -> Vec<usize> {
         points_of(self.set).into_iter().filter(|a| self.table[*a] == side).collect()
-    }
-
-    // Refusal 1 unless the set and the table are 512 long.
-    fn check_lengths(&self) -> Result<(), Refusal> {
-        lengths(&[(self.set.len(), POINTS), (self.table.len(), POINTS)])
-    }
-
-    // The checks of n, the set and the table, in order.
-    fn check(&self) -> Result<(), Refusal> {
-        taps(self.n)?;
-        bytes(self.set, self.n)?;
-        bytes(self.table, self.n)?;
-        require(self.set.contains(&1), Refusal::EmptySet)
     }
 }
 

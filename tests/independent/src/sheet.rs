@@ -1,6 +1,7 @@
 // The printed sheet: docs/SPECIFICATION.md, 'Sheet'.
+use crate::filter::Filter;
 use crate::filter_file::read;
-use crate::judgement::{Filter, Judgement, certify, judge};
+use crate::judgement::{Judgement, certify, judge};
 use crate::rank::{columns, points_of};
 use crate::refusal::{CERTIFICATE, POINTS, WORKSPACE};
 use std::fmt::Write;

@@ -1,6 +1,7 @@
 // Ranks, degrees, witnesses and certificates of up to three taps, against trying every polynomial. Sets of points and
 // sets of exponents are numbers here: bit a for the point a, bit u for the exponent u.
-use independent::judgement::{Filter, Judgement, certify, judge};
+use independent::filter::Filter;
+use independent::judgement::{Judgement, certify, judge};
 use independent::rank::Ranking;
 use independent::samples::{mask_of, pairs};
 

@@ -1,6 +1,7 @@
 // Judge, Certify and Hand over of the independent implementation, against the starred cases, evaluation and sums of
 // rows.
-use independent::judgement::{Filter, Judgement, certify, hand_over, judge};
+use independent::filter::Filter;
+use independent::judgement::{Judgement, certify, hand_over, judge};
 use independent::normal_form::{convert, degree};
 use independent::random::Random;
 use independent::rank::{points_of, row};

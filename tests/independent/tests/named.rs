@@ -1,6 +1,7 @@
 // The weightwise perfectly balanced function of the examples, against table 4 of Bonamino and Méaux
 // (docs/SPECIFICATION.md, 'Sources').
-use independent::judgement::{Filter, judge};
+use independent::filter::Filter;
+use independent::judgement::judge;
 use independent::named::perfectly_balanced;
 use independent::normal_form::weight;
 use independent::samples::mask_of;

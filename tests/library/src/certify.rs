@@ -1,4 +1,4 @@
-use independent::judgement::Filter;
+use independent::filter::Filter;
 
 unsafe extern "C" {
     fn ekthavrul_certify(

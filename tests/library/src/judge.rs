@@ -1,4 +1,5 @@
-use independent::judgement::{Filter, Judgement};
+use independent::filter::Filter;
+use independent::judgement::Judgement;
 
 unsafe extern "C" {
     fn ekthavrul_judge(

@@ -1,5 +1,6 @@
 // Judge and Certify of the static library, compared with the independent implementation.
-use independent::judgement::{Filter, Judgement, certify, judge};
+use independent::filter::Filter;
+use independent::judgement::{Judgement, certify, judge};
 use independent::random::Random;
 use independent::samples::{Tally, mask_of, pairs};
 use std::hint::black_box;

@@ -1,5 +1,5 @@
 // Slices, the points of one weight, and the functions that are balanced on one.
-use independent::judgement::Filter;
+use independent::filter::Filter;
 use independent::normal_form::weight;
 use independent::random::Random;
 use independent::rank::points_of;

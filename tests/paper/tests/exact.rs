@@ -1,6 +1,7 @@
 // The figures that are exact, by the proved library and by the independent implementation: tables 2a and 3a, the row of
 // [CMR17] at eight taps in table 4, and the upper bounds in table 5.
-use independent::judgement::{Filter, Judgement, judge};
+use independent::filter::Filter;
+use independent::judgement::{Judgement, judge};
 use independent::named::{perfectly_balanced, tap};
 use independent::random::Random;
 use independent::samples::mask_of;

@@ -1,0 +1,25 @@
+// A filter as it is lent, and the checks that every operation over a set and a table makes.
+use crate::refusal::{POINTS, Refusal, bytes, lengths, require, taps};
+
+// What the operations over a set and a table are asked about, as it is lent.
+#[derive(Clone, Copy, Debug)]
+pub struct Filter<'a> {
+    pub n: usize,
+    pub set: &'a [u8],
+    pub table: &'a [u8],
+}
+
+impl Filter<'_> {
+    // Refusal 1 unless the set and the table are 512 long.
+    pub fn check_lengths(&self) -> Result<(), Refusal> {
+        lengths(&[(self.set.len(), POINTS), (self.table.len(), POINTS)])
+    }
+
+    // The checks of n, the set and the table, in order.
+    pub fn check(&self) -> Result<(), Refusal> {
+        taps(self.n)?;
+        bytes(self.set, self.n)?;
+        bytes(self.table, self.n)?;
+        require(self.set.contains(&1), Refusal::EmptySet)
+    }
+}
