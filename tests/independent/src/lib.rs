@@ -1,8 +1,10 @@
 // The operations of docs/SPECIFICATION.md in plain Rust, written from words and by another road than the proved code.
 // Each answers what is specified, or the number of its refusal.
+pub mod faults; // faults.rs: calls that are wrong, for tests
 pub mod filter; // filter.rs: a filter as it is lent, and its checks
 pub mod filter_file; // filter_file.rs: Read, and the file of a triple
 pub mod judgement; // judgement.rs: Judge, Certify, Hand over
+pub mod lent; // lent.rs: buffers that are lent, for tests
 pub mod named; // named.rs: filter files with names
 pub mod normal_form; // normal_form.rs: Convert, Degree
 pub mod random; // random.rs: a random generator for tests

@@ -1,22 +1,15 @@
 // Judge and Certify of the static library, compared with the independent implementation.
+use independent::faults::{Fault, lend_faults};
 use independent::filter::Filter;
 use independent::judgement::{Judgement, certify, judge};
+use independent::lent::{MARGIN, lend, margins_stay, middle};
 use independent::random::Random;
-use independent::samples::{Tally, mask_of, pairs};
-use std::hint::black_box;
+use independent::samples::{mask_of, pairs};
 
 const SIDES: [u8; 2] = [1, 0];
 
 type Judge = fn(Filter, &mut [u64], &mut [u8], &mut [u8]) -> Result<Judgement, u8>;
 type Certify = fn(Filter, u8, usize, &mut [u64], &mut [u64]) -> Result<(), u8>;
-
-// What the operation answers when it is lent a copy of the set and of the table, which stay as they were.
-fn lend<A>(filter: Filter, operation: impl FnOnce(Filter) -> A) -> A {
-    let (set, table) = (filter.set.to_vec(), filter.table.to_vec());
-    let answer = operation(Filter { n: filter.n, set: black_box(&set), table: black_box(&table) });
-    assert_eq!(black_box((&set[..], &table[..])), (filter.set, filter.table), "the set and the table at exit");
-    answer
-}
 
 // Both Judges with a workspace and witness buffers of these lengths full of random content: the same answer and the
 // same whole buffers; the workspace zero where it is accepted, and every buffer as it was where it is refused.
@@ -130,11 +123,8 @@ fn starred_case_7() {
     assert_eq!((judgement.ranks[1], judgement.degree), ([4, 4, 4], 2));
 }
 
-// What Judge or Certify is asked and lent; of the buffers besides the set and the table only the lengths.
-struct Call {
-    n: usize,
-    set: Vec<u8>,
-    table: Vec<u8>,
+// What Judge or Certify is asked and lent besides a filter; of the buffers only the lengths.
+struct Own {
     side: u8,
     d: usize,
     workspace: usize,
@@ -142,123 +132,55 @@ struct Call {
     certificate: usize,
 }
 
-impl Call {
-    // A call that both accept: the points 0 and 1 are in different parts.
-    fn good(random: &mut Random, n: usize) -> Call {
-        let (mut set, mut table) = (random.mask(n, 4), random.mask(n, 4));
-        set[..2].fill(1);
-        table[..2].copy_from_slice(&[0, 1]);
-        let side = random.pick(&SIDES);
-        Call { n, set, table, side, d: 0, workspace: 8192, witnesses: [512, 512], certificate: 4096 }
-    }
-
-    // The filter that is lent.
-    fn filter(&self) -> Filter<'_> {
-        Filter { n: self.n, set: &self.set, table: &self.table }
-    }
+// What both accept beside a filter with a point in each part.
+fn good(random: &mut Random) -> Own {
+    Own { side: random.pick(&SIDES), d: 0, workspace: 8192, witnesses: [512, 512], certificate: 4096 }
 }
 
-// The byte at the place becomes the value, if there is such a place.
-fn put(bytes: &mut [u8], place: usize, value: u8) {
-    bytes.iter_mut().skip(place).take(1).for_each(|byte| *byte = value);
-}
-
-// A change to a call, which makes it wrong; the first changes nothing, and a table of zeros is wrong for side 1 only.
-type Fault = fn(&mut Call);
-
-// What both operations check: lengths, n, the bytes of the set and of the table, and that the set has a point.
-const FAULTS: [Fault; 25] = [
-    |_| (),
-    |call| call.set.truncate(511),
-    |call| call.set.push(0),
-    |call| call.set.clear(),
-    |call| call.table.truncate(511),
-    |call| call.table.push(0),
-    |call| call.table.clear(),
-    |call| call.workspace = 8191,
-    |call| call.workspace = 8193,
-    |call| call.workspace = 0,
-    |call| call.n = 0,
-    |call| call.n = 10,
-    |call| call.n = 64,
-    |call| call.n = usize::MAX,
-    |call| call.n = call.n.saturating_sub(1),
-    |call| put(&mut call.set, 0, 2),
-    |call| put(&mut call.set, (1 << call.n.min(9)) - 1, 255),
-    |call| put(&mut call.set, 1 << call.n.min(9), 1),
-    |call| put(&mut call.set, 511, 2),
-    |call| put(&mut call.table, 0, 2),
-    |call| put(&mut call.table, (1 << call.n.min(9)) - 1, 255),
-    |call| put(&mut call.table, 1 << call.n.min(9), 1),
-    |call| put(&mut call.table, 511, 2),
-    |call| call.set.fill(0),
-    |call| call.table.fill(0),
-];
+// What both check besides a filter: the length of the workspace.
+const WORKSPACE_FAULTS: [Fault<Own>; 3] =
+    [|call| call.own.workspace = 8191, |call| call.own.workspace = 8193, |call| call.own.workspace = 0];
 
 // What Judge alone checks: the lengths of the witness buffers.
-const JUDGE_FAULTS: [Fault; 5] = [
-    |call| call.witnesses[0] = 511,
-    |call| call.witnesses[0] = 513,
-    |call| call.witnesses[1] = 511,
-    |call| call.witnesses[1] = 513,
-    |call| call.witnesses = [0, 1024],
+const JUDGE_FAULTS: [Fault<Own>; 5] = [
+    |call| call.own.witnesses[0] = 511,
+    |call| call.own.witnesses[0] = 513,
+    |call| call.own.witnesses[1] = 511,
+    |call| call.own.witnesses[1] = 513,
+    |call| call.own.witnesses = [0, 1024],
 ];
 
 // What Certify alone checks: the length of the certificate, the degree, the side and the ranks, which differ at n.
-const CERTIFY_FAULTS: [Fault; 9] = [
-    |call| call.certificate = 4095,
-    |call| call.certificate = 4097,
-    |call| call.certificate = 0,
-    |call| call.d = call.n.wrapping_add(1),
-    |call| call.d = 10,
-    |call| call.d = usize::MAX,
-    |call| call.side = 2,
-    |call| call.side = 255,
-    |call| call.d = call.n,
+const CERTIFY_FAULTS: [Fault<Own>; 9] = [
+    |call| call.own.certificate = 4095,
+    |call| call.own.certificate = 4097,
+    |call| call.own.certificate = 0,
+    |call| call.own.d = call.n.wrapping_add(1),
+    |call| call.own.d = 10,
+    |call| call.own.d = usize::MAX,
+    |call| call.own.side = 2,
+    |call| call.own.side = 255,
+    |call| call.own.d = call.n,
 ];
-
-// A call of every n with every two of the faults, one after the other; the numbers answered.
-fn lend_faults(seed: u64, own: &[Fault], operation: impl Fn(&mut Random, &Call) -> Result<(), u8>) -> Vec<usize> {
-    let (mut random, mut tally) = (Random(seed), Tally::default());
-    let faults = [&FAULTS, own].concat();
-    for (n, (first, second)) in pairs(&[1, 2, 3, 4, 5, 6, 7, 8, 9], &pairs(&faults, &faults)) {
-        let mut call = Call::good(&mut random, n);
-        first(&mut call);
-        second(&mut call);
-        tally.count(operation(&mut random, &call));
-    }
-    tally.numbers(9)
-}
 
 #[test]
 fn every_refusal_of_judge_and_every_pair_of_them_in_order() {
-    let numbers = lend_faults(12, &JUDGE_FAULTS, |random, call| {
-        let lengths = [call.workspace, call.witnesses[0], call.witnesses[1]];
-        lend_judge(random, call.filter(), lengths).map(|_| ())
+    let faults = [&WORKSPACE_FAULTS[..], &JUDGE_FAULTS].concat();
+    let numbers = lend_faults(12, good, &faults, |random, call| {
+        let [one, zero] = call.own.witnesses;
+        lend_judge(random, call.filter(), [call.own.workspace, one, zero]).map(|_| ())
     });
     assert_eq!(numbers, [0, 1, 4, 6, 8]);
 }
 
 #[test]
 fn every_refusal_of_certify_and_every_pair_of_them_in_order() {
-    let numbers = lend_faults(13, &CERTIFY_FAULTS, |random, call| {
-        lend_certify(random, call.filter(), call.side, call.d, [call.workspace, call.certificate])
+    let faults = [&WORKSPACE_FAULTS[..], &CERTIFY_FAULTS].concat();
+    let numbers = lend_faults(13, good, &faults, |random, call| {
+        let (own, filter) = (&call.own, call.filter());
+        lend_certify(random, filter, own.side, own.d, [own.workspace, own.certificate])
     });
     assert_eq!(numbers, [0, 1, 4, 6, 8, 10, 11, 12]);
-}
-
-const MARGIN: usize = 64;
-
-// The part of a buffer that is lent.
-fn middle<T>(buffer: &mut [T]) -> &mut [T] {
-    let end = buffer.len() - MARGIN;
-    &mut buffer[MARGIN..end]
-}
-
-// Whether the buffer is as it was on both sides of its middle.
-fn margins_stay<T: PartialEq>(entry: &[T], exit: &[T]) -> bool {
-    let end = entry.len() - MARGIN;
-    entry[..MARGIN] == exit[..MARGIN] && entry[end..] == exit[end..]
 }
 
 #[test]

@@ -1,4 +1,5 @@
 // Convert and Degree of the static library, compared with the independent implementation.
+use independent::lent::{MARGIN, margins_stay, middle};
 use independent::normal_form;
 use independent::random::Random;
 use independent::samples::{Tally, mask_of, pairs};
@@ -120,12 +121,11 @@ fn random_bytes_of_random_lengths() {
 fn nothing_outside_the_lent_bytes_is_written() {
     let mut random = Random(4);
     for (n, length) in pairs(&TAPS, &LENGTHS) {
-        let mut around = random.bytes(64 + length + 64);
+        let mut around = random.bytes(MARGIN + length + MARGIN);
         let [_, mask] = grounds(&mut random, n, length);
-        around[64..64 + length].copy_from_slice(&mask);
+        middle(&mut around).copy_from_slice(&mask);
         let before = around.clone();
-        let _ = library::convert(&mut around[64..64 + length], n);
-        assert_eq!(around[..64], before[..64]);
-        assert_eq!(around[64 + length..], before[64 + length..]);
+        let _ = library::convert(middle(&mut around), n);
+        assert!(margins_stay(&before, &around), "Convert, n = {n}, length {length}");
     }
 }
