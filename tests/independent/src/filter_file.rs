@@ -1,4 +1,6 @@
-// Read: docs/SPECIFICATION.md, 'Filter file' and 'Read'.
+// Read and Write: docs/SPECIFICATION.md, 'Filter file' to 'Write'.
+use crate::filter::Filter;
+use crate::rank::points_of;
 use crate::refusal::{POINTS, Refusal, lengths, require, taps};
 
 // What a file says: n, the points of S, and the points where f is 1.
@@ -85,6 +87,11 @@ fn list_numbers(points: &[usize]) -> Vec<usize> {
 }
 
 impl Triple {
+    // What the file of the filter says.
+    pub fn of(filter: Filter) -> Triple {
+        Triple { n: filter.n, set: points_of(filter.set), table: points_of(filter.table) }
+    }
+
     // The numbers of the file, one after the other.
     pub fn numbers(&self) -> Vec<usize> {
         [vec![self.n], list_numbers(&self.set), list_numbers(&self.table)].concat()
@@ -94,4 +101,14 @@ impl Triple {
     pub fn file(&self) -> Vec<u8> {
         self.numbers().into_iter().flat_map(house_number).collect()
     }
+}
+
+// Write.
+pub fn write(filter: Filter, output: &mut [u8]) -> Result<usize, u8> {
+    filter.check_lengths()?;
+    filter.check()?;
+    let file = Triple::of(filter).file();
+    require(file.len() <= output.len(), Refusal::ShortOutput)?;
+    output[..file.len()].copy_from_slice(&file);
+    Ok(file.len())
 }

@@ -2,7 +2,7 @@
 // Each answers what is specified, or the number of its refusal.
 pub mod faults; // faults.rs: calls that are wrong, for tests
 pub mod filter; // filter.rs: a filter as it is lent, and its checks
-pub mod filter_file; // filter_file.rs: Read, and the file of a triple
+pub mod filter_file; // filter_file.rs: Read, Write, and the file of a triple
 pub mod judgement; // judgement.rs: Judge, Certify, Hand over
 pub mod lent; // lent.rs: buffers that are lent, for tests
 pub mod named; // named.rs: filter files with names

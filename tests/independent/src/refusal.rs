@@ -19,6 +19,7 @@ pub enum Refusal {
     Degree = 10,
     Side = 11,
     RanksDiffer = 12,
+    ShortOutput = 13,
 }
 
 impl From<Refusal> for u8 {
