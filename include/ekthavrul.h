@@ -37,7 +37,7 @@ enum {
     EKTHAVRUL_CERTIFICATE = 4096, /* a certificate, in numbers of 64 bits */
     EKTHAVRUL_ROW_WORDS = 8,      /* a point's row of a certificate, in numbers of 64 bits */
     EKTHAVRUL_REPORT = 33,        /* the report of Judge, in numbers of 32 bits */
-    EKTHAVRUL_FILE_MAX = 2053     /* no filter file that is read is longer, in bytes */
+    EKTHAVRUL_FILE_MAX = 2053     /* no filter file that is read or written is longer, in bytes */
 };
 
 /*
@@ -71,7 +71,8 @@ enum {
     EKTHAVRUL_ZERO_POLYNOMIAL = 9, /* the zero polynomial has no degree */
     EKTHAVRUL_DEGREE = 10,         /* the degree d is over n */
     EKTHAVRUL_SIDE = 11,           /* the side is neither 0 nor 1 */
-    EKTHAVRUL_RANKS_DIFFER = 12    /* at d the part's rank is not that of the set */
+    EKTHAVRUL_RANKS_DIFFER = 12,   /* at d the part's rank is not that of the set */
+    EKTHAVRUL_SHORT_OUTPUT = 13    /* the output is shorter than the file */
 };
 
 /*
@@ -82,6 +83,16 @@ enum {
  */
 uint8_t ekthavrul_read(const uint8_t *file, size_t file_length, uint8_t *set, size_t set_length, uint8_t *table,
                        size_t table_length, size_t *n);
+
+/*
+ * Write: the filter file of n, the set and the table, which Read takes back to them. The first bytes of `output` become
+ * the file, the rest stays as it was, and `*length` becomes the length of the file. Every output is accepted that is not
+ * shorter than the file; 2,053 bytes, EKTHAVRUL_FILE_MAX, are enough for every file. Where Write refuses, `*length` is as
+ * it was, like all that is lent.
+ * Refusals: LENGTH (set, table), TAPS, BYTES (set, then table), EMPTY_SET, SHORT_OUTPUT.
+ */
+uint8_t ekthavrul_write(const uint8_t *set, size_t set_length, const uint8_t *table, size_t table_length, size_t n,
+                        uint8_t *output, size_t output_length, size_t *length);
 
 /*
  * Convert: the table of a polynomial's values becomes its coefficients, and coefficients become the table.
