@@ -2,11 +2,24 @@
 // examples with their sheets.
 use crate::named::{cases, examples};
 use crate::sheet::sheet;
+use std::path::{Path, PathBuf};
 
 // A file: its path from the root of the repository, and what stands in it.
 pub struct Stored {
     pub path: String,
     pub content: Vec<u8>,
+}
+
+// The root of the repository.
+pub fn root() -> PathBuf {
+    Path::new(env!("CARGO_MANIFEST_DIR")).join("../..")
+}
+
+impl Stored {
+    // Whether it is there to be read as a filter file: the data of `cases`, and the examples.
+    pub fn is_filter_file(&self) -> bool {
+        self.path.starts_with("crates/cases/data/") || self.path.ends_with(".filter")
+    }
 }
 
 // The folders in which every file is stored, but for what is there to be read.

@@ -1,13 +1,7 @@
 // The stored files are what this implementation says today.
-use independent::stored::{FOLDERS, stored};
+use independent::stored::{FOLDERS, root, stored};
 use std::collections::BTreeSet;
 use std::fs;
-use std::path::{Path, PathBuf};
-
-// The root of the repository.
-fn root() -> PathBuf {
-    Path::new(env!("CARGO_MANIFEST_DIR")).join("../..")
-}
 
 #[test]
 fn every_stored_file_is_what_is_said_today() {

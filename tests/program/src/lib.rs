@@ -1,4 +1,5 @@
 // Runs the proved sheet program, which `rt check sheet` writes, in a process of its own.
+use independent::stored::root;
 use std::io::Write;
 use std::path::{Path, PathBuf};
 use std::process::{ChildStdin, Command, Output, Stdio};
@@ -6,11 +7,6 @@ use std::thread;
 
 // So many seconds may a run take: one that does not end is a fault.
 const LIMIT: &str = "60";
-
-// The root of the repository.
-pub fn root() -> PathBuf {
-    Path::new(env!("CARGO_MANIFEST_DIR")).join("../..")
-}
 
 // The proved program, which must be there.
 pub fn sheet_program() -> PathBuf {

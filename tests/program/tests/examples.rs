@@ -1,6 +1,7 @@
 // The proved sheet program on the examples: it prints the sheet that stands beside each.
 use independent::named::examples;
-use program::{root, sheet_of};
+use independent::stored::root;
+use program::sheet_of;
 use std::fs;
 
 #[test]

@@ -1,7 +1,8 @@
 // The script `sheet` at the root: of a file, of standard input, from another folder, and called wrongly.
 use independent::samples::PRINTED_FILE;
 use independent::sheet::sheet;
-use program::{limited, root, run};
+use independent::stored::root;
+use program::{limited, run};
 use std::fs;
 use std::path::Path;
 use std::process::{Command, Output};

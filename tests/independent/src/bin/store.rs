@@ -1,13 +1,11 @@
 // Writes the files of the repository that come from the independent implementation.
-use independent::stored::stored;
+use independent::stored::{root, stored};
 use std::fs;
-use std::path::Path;
 
 // Writes each of them, where it is not so already.
 fn main() {
-    let root = Path::new(env!("CARGO_MANIFEST_DIR")).join("../..");
     for file in stored() {
-        let path = root.join(&file.path);
+        let path = root().join(&file.path);
         if fs::read(&path).is_ok_and(|content| content == file.content) {
             continue;
         }
