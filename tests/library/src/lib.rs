@@ -7,6 +7,7 @@ mod hand_over;
 mod judge;
 mod rank;
 mod read;
+mod write;
 
 pub use certify::certify;
 pub use convert::convert;
@@ -15,6 +16,7 @@ pub use hand_over::hand_over;
 pub use judge::judge;
 pub use rank::rank;
 pub use read::read;
+pub use write::write;
 
 // What a call answered: the written answer for status 0, else the status; a refusal must leave the answer as it was.
 fn outcome<T: PartialEq + std::fmt::Debug>(status: u8, before: T, after: T) -> Result<T, u8> {

@@ -1,8 +1,19 @@
-// Read of the static library, compared with the independent implementation.
+// Read of the static library, compared with the independent implementation; and what is read, written again.
+use independent::filter::Filter;
 use independent::filter_file::{Triple, house_number, read};
 use independent::random::Random;
 use independent::samples::{LISTED_FILES, Tally, mask_of, pairs};
+use independent::stored::{root, stored};
+use std::fs;
 use std::hint::black_box;
+
+// The file that Write writes of n, the set and the table.
+fn written(n: usize, [set, table]: &[Vec<u8>; 2]) -> Vec<u8> {
+    let mut output = vec![0; 2053];
+    let length = library::write(Filter { n, set, table }, &mut output).expect("accepted");
+    output.truncate(length);
+    output
+}
 
 // Compares files, and counts the numbers answered, 0 for those read.
 struct Comparison {
@@ -17,7 +28,7 @@ impl Comparison {
     }
 
     // Both Reads of the file into buffers of these lengths full of random bytes: the same answer, the same whole
-    // buffers, and the file as it was.
+    // buffers, and the file as it was. A file that is read, written again from what Read left, is itself.
     fn lend(&mut self, file: &[u8], lengths: [usize; 2]) -> (u8, [Vec<u8>; 2]) {
         let entry = lengths.map(|length| self.random.bytes(length));
         let ([mut set, mut table], [mut plain_set, mut plain_table]) = (entry.clone(), entry.clone());
@@ -27,7 +38,10 @@ impl Comparison {
         assert_eq!(black_box(&lent), file, "the file after Read");
         let exit = [set, table];
         assert_eq!(exit, [plain_set, plain_table], "the buffers after Read of {file:02x?}");
-        assert!(proved.is_ok() || exit == entry, "a refused Read wrote, file {file:02x?}");
+        match proved {
+            Ok(n) => assert_eq!(written(n, &exit), file, "what is written after Read"),
+            Err(number) => assert!(exit == entry, "refusal {number} wrote, file {file:02x?}"),
+        }
         (self.tally.count(proved), exit)
     }
 
@@ -67,6 +81,16 @@ fn the_listed_files() {
     for (file, number) in LISTED_FILES {
         assert_eq!(comparison.file(file), number, "{file:02x?}");
     }
+}
+
+#[test]
+fn the_stored_files() {
+    let mut comparison = Comparison::new(9);
+    for stored in stored().iter().filter(|stored| stored.is_filter_file()) {
+        comparison.file(&fs::read(root().join(&stored.path)).expect("the stored file"));
+    }
+    assert_eq!(comparison.tally.numbers(1), [0, 2, 3, 4, 5, 6, 7]);
+    assert_eq!(comparison.tally.numbers(39), [0]);
 }
 
 #[test]
