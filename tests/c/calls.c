@@ -5,6 +5,9 @@
 
 enum { POINTS = EKTHAVRUL_POINTS };
 
+/* The file of the printed sheet. */
+static const uint8_t printed_file[] = {0x02, 0x04, 0x00, 0x01, 0x01, 0x01, 0x01, 0x03};
+
 static uint64_t workspace[EKTHAVRUL_WORKSPACE], certificate[EKTHAVRUL_CERTIFICATE];
 static uint8_t set[POINTS], table[POINTS], one[POINTS], zero[POINTS];
 static int faults;
@@ -26,12 +29,31 @@ static void mark(uint8_t *mask, const int *points) {
 
 /* Read of the file of the printed sheet leaves its filter in the set and the table. */
 static void check_read(void) {
-    const uint8_t file[] = {0x02, 0x04, 0x00, 0x01, 0x01, 0x01, 0x01, 0x03};
-    size_t n = 77;
-    expect(ekthavrul_read(file, 7, set, POINTS, table, POINTS, &n) == EKTHAVRUL_FILE_ENDS && n == 77, "Read refuses");
-    expect(ekthavrul_read(file, sizeof file, set, POINTS, table, POINTS, &n) == 0 && n == 2, "Read accepts");
+    size_t n = 77, length = sizeof printed_file;
+    expect(ekthavrul_read(printed_file, length - 1, set, POINTS, table, POINTS, &n) == EKTHAVRUL_FILE_ENDS && n == 77,
+           "Read refuses");
+    expect(ekthavrul_read(printed_file, length, set, POINTS, table, POINTS, &n) == 0 && n == 2, "Read accepts");
     expect(set[0] && set[1] && set[2] && set[3] && !set[4], "the set read");
     expect(!table[0] && !table[2] && table[3] && !table[4], "the table read");
+}
+
+/* Write of the filter of n taps into an output of so many bytes; its status. */
+static uint8_t write_file(size_t n, uint8_t *output, size_t room, size_t *length) {
+    return ekthavrul_write(set, POINTS, table, POINTS, n, output, room, length);
+}
+
+/* Write of what Read left is the file of the printed sheet; the byte behind it stays. A refusal leaves all as it was. */
+static void check_write(void) {
+    uint8_t output[sizeof printed_file + 1], entry[sizeof output];
+    size_t length = 77, enough = sizeof printed_file;
+    memset(output, 77, sizeof output);
+    memcpy(entry, output, sizeof entry);
+    expect(write_file(2, output, enough - 1, &length) == EKTHAVRUL_SHORT_OUTPUT, "Write refuses a short output");
+    expect(write_file(1, output, sizeof output, &length) == EKTHAVRUL_BYTES, "Write refuses a point past the last");
+    expect(length == 77, "the length after Write refused");
+    expect(memcmp(output, entry, sizeof output) == 0, "the output after Write refused");
+    expect(write_file(2, output, sizeof output, &length) == 0 && length == enough, "Write accepts");
+    expect(memcmp(output, printed_file, enough) == 0 && output[enough] == 77, "the file written");
 }
 
 /* Convert and Degree: cases 1 and 3. */
@@ -108,6 +130,7 @@ static void check_certify(void) {
 /* Makes every check; the status is 0 if there was no fault. */
 int main(void) {
     check_read();
+    check_write();
     check_normal_form();
     check_rank();
     check_report();
