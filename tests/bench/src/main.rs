@@ -22,6 +22,7 @@ use timing::{line, means, race};
 const RUNS: usize = 120;
 const FEW: usize = 10; // of the independent implementation, which is slow, and of each of several tables
 const TABLES: u64 = 12;
+const WRITE_LIMIT: f64 = 2.0; // of the time of Write over that of Read, on the longest file
 
 // The heads of the columns of times: the contenders that there are.
 fn heads(m4ri: bool) -> String {
@@ -83,6 +84,17 @@ fn bench_operations(title: &str, set: &[u8], table: &[u8]) {
     println!("The sheet is a process; one without input takes {:.1}", process_start(RUNS));
 }
 
+// Write and Read of the longest file there is, which has every point twice; Write keeps to its limit.
+fn bench_longest_file(all: &[u8]) {
+    let subject = Subject::new(9, all.to_vec(), all.to_vec());
+    let length = subject.file_length();
+    println!("Write and Read, n = 9, the longest file, {length} bytes; microseconds, least of {RUNS} runs, in turn");
+    println!("              Write      Read  ratio, at most {WRITE_LIMIT}");
+    let times = subject.file_times(RUNS);
+    println!("proved   {}", line(&times));
+    assert!(times[0] <= WRITE_LIMIT * times[1], "Write of the longest file takes longer than its limit");
+}
+
 // The proved operations on each of the filters, a line each.
 fn bench_growth(title: &str, filters: impl Iterator<Item = (usize, Vec<u8>, Vec<u8>)>) {
     println!("Growth with {title}; the proved operations, microseconds, least of {RUNS} runs");
@@ -121,6 +133,7 @@ fn main() {
     bench_judgement("all 512 points", &all);
     bench_judgement("the 126 points of weight 4", &mask_of(9, |a| weight(a) == 4));
     bench_operations("all 512 points, a random table", &all, &half);
+    bench_longest_file(&all);
     bench_growth("n: all points, majority", (1..=9).map(|n| (n, mask_of(n, |_| true), Random(1).table(n, 0))));
     let sizes = [16, 32, 64, 128, 192, 256, 320, 384, 448, 512];
     bench_growth("the set: points and a table at random", sizes.map(|m| (9, some_points(m), half.clone())).into_iter());

@@ -2,7 +2,7 @@
 use crate::contenders::Certify;
 use crate::timing::{Contender, means, race};
 use independent::filter::Filter;
-use independent::filter_file::{Triple, read};
+use independent::filter_file::{Triple, read, write};
 use independent::judgement::{Judgement, certify, hand_over, judge};
 use independent::normal_form::{convert, degree};
 use independent::rank::{Ranking, points_of, rank};
@@ -12,6 +12,7 @@ use std::fmt::Debug;
 use std::process::Command;
 
 type Read = fn(&[u8], &mut [u8], &mut [u8]) -> Result<usize, u8>;
+type Write = fn(Filter, &mut [u8]) -> Result<usize, u8>;
 type Convert = fn(&mut [u8], usize) -> Result<(), u8>;
 type Degree = fn(&[u8], usize) -> Result<u32, u8>;
 type Rank = fn(&[u8], usize, usize, &mut [u64]) -> Result<Ranking, u8>;
@@ -20,7 +21,10 @@ type HandOver = fn(usize, u8, &[u8], &[u8], &mut [u8]) -> usize;
 type Sheet = fn(&[u8]) -> String;
 
 // The names of the operations that are timed, in order.
-pub const NAMES: [&str; 8] = ["Read", "Convert", "Degree", "Rank", "Judge", "Certify", "Hand over", "sheet"];
+pub const NAMES: [&str; 9] = ["Read", "Write", "Convert", "Degree", "Rank", "Judge", "Certify", "Hand over", "sheet"];
+
+// No file is longer.
+const FILE_MAX: usize = 2053;
 
 // A filter, its file, the coefficients of its table, and what Judge answers and leaves in the witness buffers.
 pub struct Subject {
@@ -60,12 +64,17 @@ fn timed<A: PartialEq + Debug>(runs: usize, count: usize, both: [impl Fn(&mut [u
 impl Subject {
     // The filter of these masks.
     pub fn new(n: usize, set: Vec<u8>, table: Vec<u8>) -> Subject {
-        let file = Triple { n, set: points_of(&set), table: points_of(&table) }.file();
         let (mut coefficients, mut witnesses) = (table.clone(), [[0; 512]; 2]);
         library::convert(&mut coefficients, n).expect("a table that Convert accepts");
         let ([one, zero], filter) = (&mut witnesses, Filter { n, set: &set, table: &table });
+        let file = Triple::of(filter).file();
         let judgement = library::judge(filter, &mut [0; 8192], one, zero).expect("a filter that Judge accepts");
         Subject { n, set, table, file, coefficients, judgement, witnesses }
+    }
+
+    // The number of bytes of the file.
+    pub fn file_length(&self) -> usize {
+        self.file.len()
     }
 
     // The number of points.
@@ -84,6 +93,14 @@ impl Subject {
             let (mut set, mut table) = ([0; 512], [0; 512]);
             read(&self.file, &mut set, &mut table).expect("accepted");
             [set, table]
+        }
+    }
+
+    // Write of the filter.
+    fn write(&self, write: Write) -> impl Fn(&mut [u64]) -> (usize, [u8; FILE_MAX]) {
+        move |_| {
+            let mut output = [0; FILE_MAX];
+            (write(self.filter(), &mut output).expect("accepted"), output)
         }
     }
 
@@ -135,9 +152,10 @@ impl Subject {
 
     // The least microseconds of each operation: of the proved one if the count is 1, and of the independent one besides
     // if it is 2.
-    pub fn times(&self, runs: usize, count: usize) -> [Vec<f64>; 8] {
+    pub fn times(&self, runs: usize, count: usize) -> [Vec<f64>; 9] {
         [
             timed(runs, count, [self.read(library::read), self.read(read)]),
+            timed(runs, count, [self.write(library::write), self.write(write)]),
             timed(runs, count, [self.convert(library::convert), self.convert(convert)]),
             timed(runs, count, [self.degree(library::degree), self.degree(degree)]),
             timed(runs, count, [self.rank(library::rank), self.rank(rank)]),
@@ -146,5 +164,22 @@ impl Subject {
             timed(runs, count, [self.hand_over(library::hand_over), self.hand_over(hand_over_copy)]),
             timed(runs, count, [self.sheet(run_sheet), self.sheet(sheet)]),
         ]
+    }
+
+    // The least microseconds of the proved Write and of the proved Read in turn. Each leaves what the other takes, which
+    // is looked at inside the time.
+    pub fn file_times(&self, runs: usize) -> Vec<f64> {
+        let (write, read) = (self.write(library::write), self.read(library::read));
+        let writes: Contender<bool> = Box::new(move |workspace| {
+            let (length, output) = write(workspace);
+            output[..length] == self.file
+        });
+        let reads: Contender<bool> = Box::new(move |workspace| {
+            let [set, table] = read(workspace);
+            set[..] == self.set && table[..] == self.table
+        });
+        let found = race(runs, &[vec![writes, reads]]);
+        assert!(found[0].0, "Write and Read leave what they should");
+        means(&found)
     }
 }
