@@ -9,10 +9,10 @@ use Rattle.varint.proofs.append_varint.Statement.{statement}
 use Rattle.varint.proofs.append_varint.Tie as tie
 
 slice-write-output : tie.Need-slice-write-output
-slice-write-output c = omega (arith, ap length (varint-short _ (c .if1 .taken)))
+slice-write-output c = omega (arith, ap length (varint-short (c .before .args .value) (omega (arith, c .if1 .taken))))
 
 returns : tie.Need-returns
-returns c = let one = varint-short _ (c .if1 .taken) in appends-same (sym one) (appends-byte _ _ _ (omega (arith, ap length one)))
+returns c = let one = varint-short (c .before .args .value) (omega (arith, c .if1 .taken)) in appends-same (sym one) (appends-byte _ _ _ (omega (arith, ap length one)))
 
 slice-write-output-2 : tie.Need-slice-write-output-2
 slice-write-output-2 c = omega (arith, ap length (varint-long _ (c .if1 .left)))
