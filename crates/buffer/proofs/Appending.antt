@@ -7,6 +7,7 @@
 --   appends-front    what stands there
 --   appends-behind   what stands behind
 --   appends-then     bytes behind others
+--   appends-whole    as many bytes as the buffer has, written from its front
 --   appends-same     the bytes under another name
 --   appends-moved    the buffer and the place under other names
 use mathlib.Core.Path.{_≡_, refl, sym, ap, ap₂, _∙_, subst}
@@ -15,7 +16,7 @@ use Prim.Native.Nat.{ℕ, _+_, _≤_, _<_}
 use native.Mathlib.Nat.{add-zero}
 use native.Mathlib.Numerals.{add-one}
 use native.Mathlib.Omega.{arith}
-use lib.ListN.{length, getD, set, take, drop, length-append, take-append-drop}
+use lib.ListN.{length, getD, set, take, drop, length-append, take-append-drop, drop-of-length-le}
 use lib.Seq.{paste, paste-zero, paste-suc, take-length, length-take-le, take-at, drop-append-add, drop-drop}
 use Rattle.buffer.specs.Appends.{Appends}
 
@@ -68,6 +69,13 @@ module _ {t : List ℕ} {a : ℕ} (inside : a ≤ length t) where
     where
       behind : drop c t₁ ≡ drop c t
       behind = ap (λ k. drop k t₁) (g .upto) ∙ appends-behind f (length ys) ∙ ap (λ k. drop k t) (sym (g .upto))
+
+-- as many bytes as the buffer has
+pub appends-whole : {bs t t′ : List ℕ} {b : ℕ} → length bs ≡ length t → Appends bs t t′ 0 b → t′ ≡ bs
+appends-whole {bs} {t} {b = b} e h =
+    let end : length t ≤ b = omega (arith, h .upto) in
+    let past : drop b t ≡ [] = drop-of-length-le t end in
+    h .buffer ∙ ap (λ rest. bs ++ rest) past ∙ append-nil bs
 
 -- the bytes under another name
 pub appends-same : {xs ys t t′ : List ℕ} {a b : ℕ} → xs ≡ ys → Appends xs t t′ a b → Appends ys t t′ a b

@@ -1,5 +1,6 @@
 // Bytes in a lent buffer: they are written from a place on, and all other bytes stay. The result of a function that writes
-// is the place behind what it wrote. It is `pub` for the crates that write texts and files.
+// is the place behind what it wrote. `append` is `pub` for the crates that write texts and files, or copy into lent
+// buffers.
 ghost use Prim.Native.Nat.{_+_, _≤_};
 ghost use lib.ListN.{length};
 ghost use Rattle.buffer.specs.Appends.{Appends};

@@ -9,6 +9,7 @@ use lib.ListN.{length, drop, drop-of-length-le}
 use lib.Seq.{drop-cons}
 use Rattle.refusal.specs.declared.Refusal.the-variants.{Surplus}
 use Rattle.refusal.specs.Outcome.{accepted, _otherwise_, after}
+use Rattle.buffer.proofs.Appending.{appends-whole}
 use Rattle.cube.specs.NumberLists.{isEmpty, lists}
 use Rattle.cube.specs.Mask.{mask}
 use Rattle.file_reader.specs.Progress.{numbers, outcomeOf, beside}
@@ -75,15 +76,24 @@ returns c =
     let d = r .before .before .before .before in
     read-refused Surplus _ _ (decides d ∙ (read-as r .2 ∙ rw (remain (file d) (d .draw-all .result .next) (omega arith))))
 
--- where the masks are copied
-abbrev copied : tie.After-copy-arg → tie.After-draw-all
-copied c = c .before .before .before .before .before .before .before .before .before
+append-requires : tie.Need-append-requires
+append-requires c κs = omega (arith, lengths (c .before .before .before .before .before .before .before .before .before) .0)
 
-copy-requires : tie.Need-copy-requires
-copy-requires c κs = omega (arith, lengths (copied c) .0)
+append-requires-2 : tie.Need-append-requires-2
+append-requires-2 c κs =
+    let e = c .before .before .before .before .before in
+    omega (arith, lengths (e .before .before .before .before .before .before .before .before .before) .1)
 
-copy-requires-2 : tie.Need-copy-requires-2
-copy-requires-2 c κs = omega (arith, lengths (copied (c .before .before .before .before .before)) .1)
+-- where the numbers were drawn, from where the first mask is copied
+abbrev drawn-at : tie.After-append → tie.After-draw-all
+drawn-at c = c .before .before .before .before .before .before .before .before .before .before
+
+-- each mask is as long as its buffer
+set-whole : (c : tie.After-append) → length (points (drawn-at c)) ≡ length (entry (drawn-at c) .args .set .now)
+set-whole c = omega (arith, lengths (drawn-at c) .0)
+
+table-whole : (c : tie.After-append) → length (ones (drawn-at c)) ≡ length (entry (drawn-at c) .args .table .now)
+table-whole c = omega (arith, lengths (drawn-at c) .1)
 
 returns-2 : tie.Need-returns-2
 returns-2 c =
@@ -99,7 +109,7 @@ returns-3 c =
     let r = i .before .before .before in
     let d = r .before .before .before .before in
     rw (decides d, read-as r .2, none-remain (file d) (d .draw-all .result .next) (omega arith))
-    (record { answer = refl; set = p .copy .ensures ∙ read-as r .3; table = q .copy2 .ensures ∙ read-as r .4 })
+    (record { answer = refl; set = appends-whole (set-whole p) (p .append .ensures) ∙ read-as r .3; table = appends-whole (table-whole p) (q .append2 .ensures) ∙ read-as r .4 })
 
 pub read-numbers-spec : {M : Type 1} → statement M
 read-numbers-spec =
@@ -112,9 +122,9 @@ read-numbers-spec =
     (λ c. search needs)
     returns
     (λ c. search needs)
-    copy-requires
+    append-requires
     (λ c. search needs)
-    copy-requires-2
+    append-requires-2
     returns-2
     (λ c. search needs)
     (λ c. search needs)
