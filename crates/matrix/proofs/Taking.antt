@@ -1,5 +1,6 @@
 -- The points of a mask are taken in the workspace.
 --   takes             a row copied behind the kept rows, reduced, and kept or not, is taken as the definition says
+--   takes-from        a row taken by its number, where the number has another name
 --   pointsTo b a      the points of the mask b below a
 --   eliminates-none   no point is taken yet
 --   eliminates-yes    the next number is a point of the mask
@@ -40,6 +41,10 @@ takes t₀ t₁ t₂ k k′ n v l s e r f g h =
       grows = g;
       few = h;
     }
+
+-- the number of a row under another name
+pub takes-from : (t t′ : List Row) (k k′ c m : ℕ) {from place : ℕ} → from ≡ place → Takes t t′ k k′ (cut c (rowOf t from)) m → Takes t t′ k k′ (cut c (rowOf t place)) m
+takes-from t t′ k k′ c m e h = rw (← e) h
 
 -- the points of the mask below a
 abbrev pub pointsTo : List ℕ → ℕ → List ℕ

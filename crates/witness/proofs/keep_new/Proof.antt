@@ -1,17 +1,14 @@
 -- The loop's invariant, Tried: nothing was left of the rows of the points below a, and the kept rows stay; each turn is a law of NewRow.antt.
 use borrow.Author.Needs.{needs}
 use mathlib.Core.Path.{_≡_, ap, _∙_}
-use mathlib.Core.List.{List}
 use mathlib.Core.Logic.{⊎-elim}
-use Prim.Native.Nat.{ℕ, _-_, _≤_}
+use Prim.Native.Nat.{_-_, _≤_}
 use native.Mathlib.Omega.{arith}
 use lib.ListN.{length}
-use Rattle.gf2.specs.Vector.{Row}
-use Rattle.gf2.specs.Cut.{cut}
-use Rattle.gf2.specs.Steps.{rowOf, Pivots}
+use Rattle.gf2.specs.Steps.{Pivots}
 use Rattle.packed.specs.Packed.{unpacked}
 use Rattle.packed.proofs.Rows.{length-rows}
-use Rattle.matrix.specs.Workspace.{Takes}
+use Rattle.matrix.proofs.Taking.{takes-from}
 use Rattle.witness.proofs.NewRow.{Tried, tried-none, tried-other, tried-zero, tried-new, tried-all}
 use Rattle.witness.proofs.keep_new.Statement.{statement}
 use Rattle.witness.proofs.keep_new.Tie as tie
@@ -34,10 +31,6 @@ take-row-requires c κs =
     let s = l .before .before .before .before in
     (l .loop .inv .1, l .loop .inv .2, s .pre .3, omega (arith, c .row-of .ensures), l .loop .inv .3)
 
--- what was taken is the row in the place of the point
-placed : (t t′ : List Row) (k k′ columns m : ℕ) {from place : ℕ} → from ≡ place → Takes t t′ k k′ (cut columns (rowOf t from)) m → Takes t t′ k k′ (cut columns (rowOf t place)) m
-placed t t′ k k′ columns m e h = rw (← e) h
-
 returns : tie.Need-returns Inv-loop μ-loop
 returns c =
     let r = c .before .before .before .before .before .before in
@@ -47,7 +40,7 @@ returns c =
     let ws′ = r .take-row .last .0 in (
       tried-new (unpacked ws) (s .args .kept) (s .args .columns) (s .args .set .now) (unpacked (l .loop .ws)) (l .loop .a) (l .loop .inv .4)
           (unpacked ws′) (r .take-row .result .kept) (r .take-row .result .additions) (length-rows 1024 ws) (length-rows 1024 ws′) (s .pre .3)
-          (omega arith) (r .before .before .before .before .if1 .taken) (placed _ _ _ _ _ _ (r .before .row-of .ensures) (r .take-row .ensures .0)) (c .if2 .taken),
+          (omega arith) (r .before .before .before .before .if1 .taken) (takes-from _ _ _ _ _ _ (r .before .row-of .ensures) (r .take-row .ensures .0)) (c .if2 .taken),
       r .take-row .ensures .1,
     )
 
@@ -62,7 +55,7 @@ loop-again c =
     let r = w .4 .result in
     let ws′ = w .4 .last .0 in
     let z = tried-zero (unpacked ws) (s .args .kept) (s .args .columns) (s .args .set .now) (unpacked (l .loop .ws)) (l .loop .a) (i .4)
-    (unpacked ws′) (r .kept) (r .additions) (length-rows 1024 ws) (length-rows 1024 ws′) (s .pre .3) (omega arith) (w .0 .taken) (placed _ _ _ _ _ _ (w .3 .ensures) (w .4 .ensures .0)) (w .10 .left) in (
+    (unpacked ws′) (r .kept) (r .additions) (length-rows 1024 ws) (length-rows 1024 ws′) (s .pre .3) (omega arith) (w .0 .taken) (takes-from _ _ _ _ _ _ (w .3 .ensures) (w .4 .ensures .0)) (w .10 .left) in (
       omega arith,
       ap length (w .11) ∙ w .4 .kept .0 ∙ i .1,
       ap length (w .12) ∙ w .4 .kept .1 .0 ∙ i .2,

@@ -8,11 +8,10 @@ use native.Mathlib.Omega.{arith}
 use lib.ListN.{length}
 use borrow.Author.Tests.{eq-eqb, ne-eqb}
 use Rattle.gf2.specs.Vector.{Row}
-use Rattle.gf2.specs.Cut.{cut}
-use Rattle.gf2.specs.Steps.{rowOf, Pivots}
+use Rattle.gf2.specs.Steps.{Pivots}
 use Rattle.packed.specs.Packed.{unpacked}
-use Rattle.matrix.specs.Workspace.{Takes, Eliminates}
-use Rattle.matrix.proofs.Taking.{pointsTo, eliminates-none, eliminates-yes, eliminates-no}
+use Rattle.matrix.specs.Workspace.{Eliminates}
+use Rattle.matrix.proofs.Taking.{takes-from, pointsTo, eliminates-none, eliminates-yes, eliminates-no}
 use Rattle.matrix.proofs.elimination.eliminate_with.Statement.{statement}
 use Rattle.matrix.proofs.elimination.eliminate_with.Tie as tie
 
@@ -57,7 +56,7 @@ loop-again c =
     (λ w.
     let r = w .4 .result in
     let h = w .4 .ensures in
-    let taken = subst (λ from. Takes (unpacked (l .loop .ws)) (unpacked (w .4 .last .0)) (l .loop .kept) (r .kept) (cut (s .args .columns) (rowOf (unpacked (l .loop .ws)) from)) (r .additions)) (w .3 .ensures) (h .0) in
+    let taken = takes-from _ _ _ _ _ _ (w .3 .ensures) (h .0) in
     let e : Eliminates t (unpacked (w .4 .last .0)) (s .args .columns) (pointsTo b (a + 1)) (r .kept) (l .loop .additions + r .additions) =
     eliminates-yes t (s .args .columns) b (unpacked (l .loop .ws)) (unpacked (w .4 .last .0)) a (l .loop .kept) (l .loop .additions) (r .kept) (r .additions)
     (i .5 .1) (eq-eqb _ _ (w .0 .taken)) taken in (
