@@ -19,6 +19,7 @@
 --   count-listed      a distinct list of numbers below m is as long as the count of its numbers
 --   member-all        m distinct numbers below m are all of them
 --   some-member       a list that is not empty has a member
+--   some-length       a list is not empty just if its length is at least 1
 use mathlib.Core.Path.{_≡_, refl, sym, ap, _∙_}
 use mathlib.Core.Logic.{_↔_, _⊎_, inl, inr}
 use mathlib.Core.Bool.{Bool, true, false, _&&_, _||_, or-true, false≢true, not}
@@ -211,3 +212,9 @@ pub some-member : (xs : List ℕ) → isEmpty xs ≡ false → (a : ℕ) × List
 unfolding isEmpty
 some-member [] e = absurd (false≢true (sym e))
 some-member (x ∷ xs) e = (x, List·Memᴰ·head refl)
+
+-- a list is not empty just if its length is at least 1
+pub some-length : (xs : List ℕ) → (isEmpty xs ≡ false) ↔ (1 ≤ length xs)
+unfolding isEmpty
+some-length [] = (λ e. absurd (false≢true (sym e)), λ l. absurd (omega arith))
+some-length (x ∷ xs) = (λ e. omega arith, λ l. refl)

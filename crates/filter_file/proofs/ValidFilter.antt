@@ -4,17 +4,17 @@
 --   valid-some     and the set has a point
 --   valid-again    and what their file says is it again
 --   filter-valid   what the file of a filter whose set has a point says obeys the rules
-use mathlib.Core.Path.{_≡_, refl, sym, ap, _∙_}
-use mathlib.Core.Bool.{false, false≢true}
-use mathlib.Core.List.{List, [], _∷_}
+use mathlib.Core.Path.{_≡_, ap, _∙_}
+use mathlib.Core.Bool.{false}
+use mathlib.Core.List.{List}
 use Prim.Native.Nat.{ℕ, _≤_}
 use native.Mathlib.Omega.{arith}
-use lib.ListN.{length}
 use lib.Pow.{pow-mono}
 use Rattle.cube.specs.NumberLists.{isEmpty, lists}
 use Rattle.cube.specs.Cube.{size}
 use Rattle.cube.specs.Mask.{points, mask}
 use Rattle.cube.proofs.Taps.{taps-range}
+use Rattle.cube.proofs.Listed.{some-length}
 use Rattle.cube.proofs.MaskOf.{length-mask}
 use Rattle.filter.specs.Filter.{Filter}
 use Rattle.point_list.proofs.ListMasks.{points-listed, listed-formed, points-rise}
@@ -35,31 +35,19 @@ valid-filter {c} v = record {
   table-formed = listed-formed (c .n) (c .table) (v .table);
 }
 
--- a list that has a member is not empty
-some-listed : (ps : List ℕ) → 1 ≤ length ps → isEmpty ps ≡ false
-unfolding isEmpty
-some-listed [] l = absurd (omega arith)
-some-listed (p ∷ ps) l = refl
-
 -- the set has a point
 pub valid-some : {c : Contents} → Valid c → isEmpty (points (mask (lists (c .set)))) ≡ false
-valid-some {c} v = ap isEmpty (points-listed (size (c .n)) (c .set) (size-small v) (v .set)) ∙ some-listed (c .set) (v .some)
+valid-some {c} v = ap isEmpty (points-listed (size (c .n)) (c .set) (size-small v) (v .set)) ∙ some-length (c .set) .1 (v .some)
 
 -- what their file says is it again
 pub valid-again : {c : Contents} → Valid c → contentsOf (c .n) (mask (lists (c .set))) (mask (lists (c .table))) ≡ c
 valid-again {c} v = rw (points-listed (size (c .n)) (c .set) (size-small v) (v .set), points-listed (size (c .n)) (c .table) (size-small v) (v .table))
 
--- a list that is not empty has a member
-listed-some : (ps : List ℕ) → isEmpty ps ≡ false → 1 ≤ length ps
-unfolding isEmpty
-listed-some [] e = absurd (false≢true (sym e))
-listed-some (p ∷ ps) e = omega arith
-
 -- what the file of a filter whose set has a point says obeys the rules
 pub filter-valid : {n : ℕ} {s f : List ℕ} → Filter n s f → isEmpty (points s) ≡ false → Valid (contentsOf n s f)
 filter-valid {n} {s} {f} h some = record {
   tapped = h .tapped;
-  some = listed-some (points s) some;
+  some = some-length (points s) .0 some;
   set = points-rise n s (h .set-formed);
   table = points-rise n f (h .table-formed);
 }
