@@ -17,6 +17,7 @@ ghost use Rattle.exports.specs.Status.{statusOf};
 ghost use Rattle.exports.specs.Exported.{ReadStatus, WriteStatus, RankStatus, JudgeStatus, CertifyStatus, inFront, HandOverStatus};
 use crate::report::REPORT;
 use crate::report::report_of;
+use buffer::append;
 use certify::CertifyAnswer;
 use filter_file::read::ReadAnswer;
 use filter_file::write::WriteAnswer;
@@ -158,14 +159,11 @@ pub extern "C" fn ekthavrul_certify(
 fn copy_front(part: &[u8], copy: &mut [u8])
     ensures { λ _. ⌜ now (copy .exit) ≡ inFront (now (part .entry)) (now (copy .entry)) ⌝ }
 {
-    let mut i: usize = 0;
-    while i < part.len() {
-        if i == copy.len() {
-            return;
-        }
-        copy[i] = part[i];
-        i += 1;
+    if part.len() <= copy.len() {
+        append(copy, 0, part);
+        return;
     }
+    append(copy, 0, &part[..copy.len()]);
 }
 
 // Hand over: the part handed back is copied to the front of `copy`, as far as it has room. The result is the part's

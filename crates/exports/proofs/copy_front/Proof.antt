@@ -1,58 +1,45 @@
--- The loop's invariant: the buffer is the first i bytes of the part, then its own bytes from i on; at the end of either, front-done.
 use borrow.Author.Needs.{needs}
-use mathlib.Core.Path.{_≡_, refl, _∙_}
-use mathlib.Core.List.{_++_}
-use Prim.Native.Nat.{_-_, _≤_}
+use mathlib.Core.Path.{sym}
 use native.Mathlib.Omega.{arith}
-use lib.ListN.{length, take, drop, length-set}
-use Rattle.exports.proofs.Front.{front-turn, front-done}
+use lib.ListN.{length}
+use lib.Seq.{take-length, length-take-le}
+use Rattle.buffer.proofs.Appending.{appends-same}
+use Rattle.exports.proofs.Front.{front-appended}
 use Rattle.exports.proofs.copy_front.Statement.{statement}
 use Rattle.exports.proofs.copy_front.Tie as tie
 
-abbrev Inv-loop : tie.InvT-loop
-Inv-loop part copy₀ i₀ copy i = (i ≤ length part) × (i ≤ length copy₀) × (length copy ≡ length copy₀) × (copy ≡ take i part ++ drop i copy₀)
-
-abbrev μ-loop : tie.MeasureT-loop
-μ-loop part copy₀ i₀ copy i = length part - i
-
-loop-holds : tie.Need-loop-holds Inv-loop μ-loop
-loop-holds c = (omega arith, omega arith, refl, refl)
-
-returns : tie.Need-returns Inv-loop μ-loop
+returns : tie.Need-returns
 returns c =
-    let l = c .before .before in
-    let a = l .before .args in
-    front-done (a .part .now) (a .copy .now) (l .loop .copy) (l .loop .i) (l .loop .inv .3) (omega arith)
+    let p = c .before .before in
+    let t = p .before .before in
+    let a = t .before .before .before .args in
+    front-appended (a .part .now) (a .copy .now) (length (a .part .now)) (omega arith) (appends-same (sym (take-length (a .part .now))) (p .append .ensures))
 
-loop-again : tie.Need-loop-again Inv-loop μ-loop
-loop-again c =
-    let l = c .before .before .before in
-    let a = l .before .args in (
-      omega arith,
-      omega arith,
-      length-set (l .loop .copy) (l .loop .i) _ ∙ l .loop .inv .2,
-      front-turn (a .part .now) (a .copy .now) (l .loop .copy) (l .loop .i) (l .loop .inv .3) (omega arith) (omega arith),
-    )
+slice-aggregate-append : tie.Need-slice-aggregate-append
+slice-aggregate-append c =
+    let a = c .before .before .before .before .before .args in
+    sym (length-take-le _ (a .part .now) (omega arith))
 
-returns-2 : tie.Need-returns-2 Inv-loop μ-loop
+append-requires-2 : tie.Need-append-requires-2
+append-requires-2 c κs =
+    let a = c .before .before .before .before .before .args in
+    omega (arith, length-take-le (length (a .copy .now)) (a .part .now) (omega arith))
+
+returns-2 : tie.Need-returns-2
 returns-2 c =
-    let l = c .before in
-    let a = l .before .args in
-    front-done (a .part .now) (a .copy .now) (l .loop .copy) (l .loop .i) (l .loop .inv .3) (omega arith)
+    let p = c .before .before in
+    let e = p .before .before .before in
+    let a = e .before .before .before .args in
+    front-appended (a .part .now) (a .copy .now) (length (a .copy .now)) (omega arith) (p .append2 .ensures)
 
 pub copy-front-spec : {M : Type 1} → statement M
 copy-front-spec =
     tie.close
     (tie.spec
-    Inv-loop
-    μ-loop
-    loop-holds
+    (λ c κs. search needs)
     (λ c. search needs)
     returns
-    (λ c. omega arith)
-    (λ c. omega arith)
-    (λ c. omega arith)
-    (λ c. omega arith)
-    loop-again
+    slice-aggregate-append
+    append-requires-2
     (λ c. search needs)
     returns-2)
