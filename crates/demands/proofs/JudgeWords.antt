@@ -5,7 +5,7 @@ use mathlib.Core.Logic.{_↔_}
 use mathlib.Core.Bool.{true, false}
 use mathlib.Core.List.{List, List·Memᴰ, map}
 use mathlib.Core.Option.{some}
-use Prim.Native.Nat.{ℕ, zero, suc, _+_, _≤_, _<_}
+use Prim.Native.Nat.{ℕ, _+_, _≤_, _<_}
 use native.Mathlib.Decide.{decLt}
 use native.Mathlib.Omega.{arith}
 use lib.ListN.{length, getD, length-map, List·getD-eq-default}
@@ -33,8 +33,9 @@ use Rattle.filter.specs.Sides.{ofSide}
 use Rattle.filter.specs.Filter.{Filter}
 use Rattle.filter.specs.Part.{part}
 use Rattle.filter.proofs.Filters.{few-taps}
+use Rattle.filter.proofs.Sides.{of-both}
 use Rattle.immunity.specs.declared.Ranks.{Ranks}
-use Rattle.immunity.specs.Ranks.{noRanks, ranksIf}
+use Rattle.immunity.specs.Ranks.{noRanks, ranksIf, parts}
 use Rattle.immunity.specs.Witness.{IsWitness, witnessRow, newPoint, witnessAt}
 use Rattle.immunity.specs.Judgement.{EqualRanks, differs, ranksAt, reported, sideAt, additionsAt, summed, witnessBytes, Judgement, judged, partRanks, GivenEqual}
 use Rattle.immunity.specs.Certificate.{certificate}
@@ -61,9 +62,7 @@ module _ (n : ℕ) (s f : List ℕ) where
 
   -- those of the parts, one by one
   parts-past : (d : ℕ) → n < d → (side : ℕ) → side ≤ 1 → ofSide side (partRanks (judged graded n s f) d) ≡ 0
-  parts-past d l zero m = ap (λ (r : Ranks). r .zero) (ranks-past d l)
-  parts-past d l (suc zero) m = ap (λ (r : Ranks). r .one) (ranks-past d l)
-  parts-past d l (suc (suc side)) m = absurd (omega arith)
+  parts-past d l side m = ap (λ (r : Ranks). ofSide side (parts r)) (ranks-past d l) ∙ of-both (λ i. 0) side m
 
   -- the additions are those of the three eliminations at each degree
   additions-summed : judged graded n s f .additions

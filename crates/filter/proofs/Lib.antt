@@ -1,4 +1,5 @@
--- Laws of filters, of their parts, and of what lies outside them.
+-- Laws of filters, of their parts, of what lies outside them, and of what exists for each side.
 pub mod Filters
 pub mod PartPoints
 pub mod Outside
+pub mod Sides

@@ -6,7 +6,7 @@
 use mathlib.Core.Path.{_≡_, sym, ap, _∙_}
 use mathlib.Core.Logic.{_↔_}
 use mathlib.Core.List.{List}
-use Prim.Native.Nat.{ℕ, zero, suc, _≤_}
+use Prim.Native.Nat.{ℕ, _≤_}
 use native.Mathlib.Omega.{arith}
 use lib.ListN.{getD}
 use borrow.Author.Tests.{le-leb}
@@ -14,9 +14,10 @@ use Rattle.cube.specs.Mask.{points}
 use Rattle.cube.proofs.Masks.{value-at}
 use Rattle.filter.specs.Sides.{ofSide}
 use Rattle.filter.specs.Part.{part, bothParts}
+use Rattle.filter.proofs.Sides.{of-both}
 use Rattle.matrix.specs.Matrix.{rankOf}
 use Rattle.immunity.specs.declared.Ranks.{Ranks}
-use Rattle.immunity.specs.Ranks.{noRanks, ranksIf, ranksOf}
+use Rattle.immunity.specs.Ranks.{noRanks, ranksIf, parts, ranksOf}
 use Rattle.immunity.specs.Judgement.{EqualRanks, ranksAt, judged, setRank, partRanks, GivenEqual}
 
 module _ (o : List ℕ) (n : ℕ) (s f : List ℕ) (d : ℕ) (up : d ≤ n) (small : n ≤ 9) where
@@ -31,9 +32,7 @@ module _ (o : List ℕ) (n : ℕ) (s f : List ℕ) (d : ℕ) (up : d ≤ n) (sma
 
   -- that of a side's part
   pub part-given : (side : ℕ) → side ≤ 1 → ofSide side (partRanks (judged o n s f) d) ≡ rankOf o n d (part side s f)
-  part-given zero l = ap (λ (r : Ranks). r .zero) ranks-given
-  part-given (suc zero) l = ap (λ (r : Ranks). r .one) ranks-given
-  part-given (suc (suc side)) l = absurd (omega arith)
+  part-given side l = ap (λ (r : Ranks). ofSide side (parts r)) ranks-given ∙ of-both (λ i. rankOf o n d (part i s f)) side l
 
   -- so they are equal exactly where the ranks are
   pub equal-given : (side : ℕ) → side ≤ 1 → GivenEqual (judged o n s f) side d ↔ EqualRanks o n s f side d

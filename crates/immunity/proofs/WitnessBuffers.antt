@@ -3,11 +3,11 @@
 --   witness-degree  which has exactly that degree
 --   witness-zeros   the buffer of a side that does not differ there is zero
 --   buffer-holds    the two buffers of a judgement are those of the sides
-use mathlib.Core.Path.{_≡_, sym}
+use mathlib.Core.Path.{_≡_, sym, ap, _∙_}
 use mathlib.Core.Bool.{false}
 use mathlib.Core.List.{List}
 use mathlib.Core.Option.{some}
-use Prim.Native.Nat.{ℕ, zero, suc, _≤_}
+use Prim.Native.Nat.{ℕ, _≤_}
 use native.Mathlib.Omega.{arith}
 use lib.Pow.{pow-mono}
 use Rattle.cube.specs.Mask.{member, points, mask}
@@ -18,6 +18,7 @@ use Rattle.polynomial.proofs.HasDegree.{has-degree}
 use Rattle.matrix.proofs.Rising.{points-rising}
 use Rattle.filter.specs.Sides.{ofSide}
 use Rattle.filter.specs.Part.{part}
+use Rattle.filter.proofs.Sides.{of-both}
 use Rattle.immunity.specs.Annihilator.{Annihilator}
 use Rattle.immunity.specs.Witness.{IsWitness, witnessAt}
 use Rattle.immunity.specs.Judgement.{EqualRanks, reported, witnessBytes, judged}
@@ -61,6 +62,4 @@ module _ {o : List ℕ} (g : Graded o) {n : ℕ} (small : n ≤ 9) (s f : List �
 pub buffer-holds : (o : List ℕ) (n : ℕ) (s f : List ℕ) (side : ℕ) → side ≤ 1 → (k : ℕ) → reported o n s f ≡ some k
     → ofSide side (judged o n s f .witnesses) ≡ witnessBytes o n s f (some k) side
 unfolding judged
-buffer-holds o n s f zero l k e = rw e
-buffer-holds o n s f (suc zero) l k e = rw e
-buffer-holds o n s f (suc (suc side)) l k e = absurd (omega arith)
+buffer-holds o n s f side l k e = of-both (witnessBytes o n s f (reported o n s f)) side l ∙ ap (λ x. witnessBytes o n s f x side) e
