@@ -24,10 +24,11 @@ use lib.Seq.{getD-set-same, getD-set-other, ext-getD}
 use borrow.Author.Count.{below-more}
 use borrow.Author.Tests.{le-leb, lt-leb}
 use Rattle.cube.specs.NumberLists.{upFrom, below}
-use Rattle.cube.proofs.Masks.{member-from, length-from, value-at}
+use Rattle.cube.proofs.Masks.{length-from, value-at}
 use Rattle.gf2.specs.Vector.{Each}
 use Rattle.gf2.proofs.Each.{member-each, map-each}
 use Rattle.immunity.specs.Judgement.{summed}
+use Rattle.immunity.proofs.FirstDegree.{degree-below}
 use Rattle.degree_ranks.specs.Cut.{numberIf, upTo}
 
 -- the degrees from d on up to n
@@ -111,7 +112,7 @@ module _ (n : ℕ) (f g : ℕ → ℕ) (same : (d : ℕ) → d ≤ n → f d ≡
 
   -- and the same sum
   pub summed-same : summed f (below (n + 1)) ≡ summed g (below (n + 1))
-  summed-same = each-summed f g (below (n + 1)) (member-each (λ d. f d ≡ g d) (below (n + 1)) (λ d m. same d (omega (arith, member-from 0 (n + 1) d .0 m .1))))
+  summed-same = each-summed f g (below (n + 1)) (member-each (λ d. f d ≡ g d) (below (n + 1)) (λ d m. same d (degree-below n d .0 m)))
 
 -- the sum of three numbers for each member
 pub summed-three : (f g h : ℕ → ℕ) (xs : List ℕ) → summed (λ x. f x + g x + h x) xs ≡ summed f xs + summed g xs + summed h xs

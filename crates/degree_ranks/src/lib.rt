@@ -1,22 +1,24 @@
-// The ranks of a set and of its two parts at each degree, and the first degree at which they differ:
+// The ranks of a set and of its two parts at each degree, and the degrees at which they differ first:
 // docs/SPECIFICATION.md, 'Judge'.
 ghost use mathlib.Core.Path.{_≡_};
 ghost use mathlib.Core.List.{map};
-ghost use mathlib.Core.Option.{some};
-ghost use Prim.Native.Nat.{ℕ, _+_, _≤_};
+ghost use mathlib.Core.Option.{some, Option·getD};
+ghost use Prim.Native.Nat.{ℕ, _+_, _≤_, min};
 ghost use lib.ListN.{length, getD, drop};
 ghost use Rattle.cube.specs.NumberLists.{below};
 ghost use Rattle.cube.specs.Mask.{points, byte};
 ghost use Rattle.order.specs.Order.{Graded};
 ghost use Rattle.packed.specs.Packed.{unpacked};
 ghost use Rattle.gf2.specs.Prefix.{AtMost};
-ghost use Rattle.filter.specs.Sides.{pair};
+ghost use Rattle.filter.specs.Sides.{pair, bothSides};
 ghost use Rattle.immunity.specs.First.{first};
+ghost use Rattle.immunity.specs.SideDegree.{degreeOf, degreesOf};
 ghost use Rattle.immunity.specs.Judgement.{summed};
 ghost use Rattle.immunity.specs.Ranks.{noRanks, ranksIn, ranksUpTo, additionsOf, partDiffers, differ};
 ghost use Rattle.degree_ranks.specs.Cut.{upTo, columnCounts, rankCut, additionsCut};
 ghost use Rattle.degree_ranks.specs.Ready.{Ready, Marks};
 use immunity::Ranks;
+use immunity::SideDegree;
 use matrix::tally::eliminate_tallied;
 use order::columns::column_count;
 use packed::COLUMNS;
@@ -36,6 +38,13 @@ struct MaskRanks {
 pub struct FoundRanks {
     pub ranks: [Ranks; 10],
     pub additions: u32,
+}
+
+// The reported degree, and each side's own.
+pub struct FoundDegrees {
+    pub reported: usize,
+    pub one: SideDegree,
+    pub zero: SideDegree,
 }
 
 // The number of columns of `n` taps at each degree up to `n`, and 0 past it.
@@ -124,37 +133,71 @@ pub fn all_ranks(
     }
 }
 
-// Whether the rank of one of the parts is not that of the set.
-fn either_differs(r: Ranks) -> bool
-    ensures { λ b. ⌜ b ≡ differ r ⌝ }
+// Whether the rank of a side's part is not that of the set; public for Judge alone.
+pub fn part_differs(r: Ranks, side: u8) -> bool
+    ensures { λ b. ⌜ b ≡ partDiffers r side ⌝ }
 {
-    if r.set != r.one {
-        return true;
+    if side == 1 {
+        return r.set != r.one;
     }
     r.set != r.zero
 }
 
-// The first degree up to `n` at which the rank of a part is not that of the set, where there is one; public for Judge
-// alone.
-pub fn first_difference(ranks: [Ranks; 10], n: usize) -> usize
+// A side's own degree: the first up to `n` at which the rank of its part is not that of the set, or none.
+fn side_degree(ranks: [Ranks; 10], n: usize, side: u8) -> SideDegree
     requires { ⌜ n ≤ 9 ⌝ }
-    ensures { λ r. ⌜ ((k : ℕ) → first (λ d. differ (getD ranks d noRanks)) (below (n + 1)) ≡ some k → r ≡ k) ⌝ }
-    ensures { λ r. ⌜ r ≤ n ⌝ }
+    ensures { λ r. ⌜ degreeOf r ≡ first (λ d. partDiffers (getD ranks d noRanks) side) (below (n + 1)) ⌝ }
 {
     let mut d: usize = 0;
-    while d < n {
+    while d <= n {
         let here = ranks[d];
-        if either_differs(here) {
-            return d;
+        if part_differs(here, side) {
+            return SideDegree::At(d);
         }
         d += 1;
     }
-    n
+    SideDegree::None
+}
+
+// The degree, or `n` if there is none.
+fn degree_or(degree: SideDegree, n: usize) -> usize
+    ensures { λ r. ⌜ r ≡ Option·getD (degreeOf degree) n ⌝ }
+{
+    match degree {
+        SideDegree::At(d) => d,
+        SideDegree::None => n,
+    }
+}
+
+// The smaller of the two sides' degrees, where a side without one counts as `n`.
+fn smaller_degree(one: SideDegree, zero: SideDegree, n: usize) -> usize
+    ensures { λ r. ⌜ r ≡ min (Option·getD (degreeOf one) n) (Option·getD (degreeOf zero) n) ⌝ }
+{
+    let of_one = degree_or(one, n);
+    let of_zero = degree_or(zero, n);
+    if of_one < of_zero { of_one } else { of_zero }
+}
+
+// The degrees that the ranks show; public for Judge alone. The reported one is the first at which the rank of a part is
+// not that of the set, where there is one.
+pub fn found_degrees(ranks: [Ranks; 10], n: usize) -> FoundDegrees
+    requires { ⌜ n ≤ 9 ⌝ }
+    ensures { λ r. ⌜ degreesOf (r .one) (r .zero) ≡ bothSides (λ side. first (λ d. partDiffers (getD ranks d noRanks) side) (below (n + 1))) ⌝ }
+    ensures { λ r. ⌜ ((k : ℕ) → first (λ d. differ (getD ranks d noRanks)) (below (n + 1)) ≡ some k → r .reported ≡ k) ⌝ }
+    ensures { λ r. ⌜ r .reported ≤ n ⌝ }
+{
+    let one = side_degree(ranks, n, 1);
+    let zero = side_degree(ranks, n, 0);
+    FoundDegrees {
+        reported: smaller_degree(one, zero, n),
+        one,
+        zero,
+    }
 }
 
 // The side of the reported degree, 1 if the rank of part 1 is not that of the set, else 0; public for Judge alone.
 pub fn side_of(here: Ranks) -> u8
     ensures { λ s. ⌜ s ≡ byte (partDiffers here 1) ⌝ }
 {
-    if here.set != here.one { 1 } else { 0 }
+    if part_differs(here, 1) { 1 } else { 0 }
 }

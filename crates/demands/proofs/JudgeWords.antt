@@ -25,7 +25,6 @@ use Rattle.refusal.proofs.Outcomes.{not-both}
 use Rattle.polynomial.specs.Polynomial.{Polynomial}
 use Rattle.gf2.specs.Vector.{Row, chosen, SumOf}
 use Rattle.packed.specs.Packed.{zeros}
-use Rattle.gf2.proofs.Bits.{not-one}
 use Rattle.gf2.proofs.Each.{each-member, chosen-among}
 use Rattle.point_rows.specs.Rows.{row, rows}
 use Rattle.matrix.specs.Matrix.{eliminated, choice}
@@ -42,7 +41,7 @@ use Rattle.immunity.specs.Certificate.{certificate}
 use Rattle.immunity.proofs.PartPoints.{part-among}
 use Rattle.immunity.proofs.Equal.{equal-sums}
 use Rattle.immunity.proofs.Given.{equal-given}
-use Rattle.immunity.proofs.Reported.{unequal-differs, reports}
+use Rattle.immunity.proofs.Reported.{unequal-differs, equal-differs, reports}
 use Rattle.immunity.proofs.Witnesses.{is-unique}
 use Rattle.immunity.proofs.WitnessBuffers.{witness-given, witness-zeros, buffer-holds}
 use Rattle.judge.specs.Judge.{JudgeAccepts}
@@ -98,7 +97,7 @@ words n s f k p has is = record {
   ranks-long = length-map (below 10) (ranksAt graded n s f) ∙ length-from 0 10;
   past-n = λ d l. (ap (λ (r : Ranks). r .set) (ranks-past n s f d l), parts-past n s f d l);
   side-1 = λ h. side ∙ ap byte (unequal-differs graded n s f k 1 .1 (λ e. h (given 1 k (omega arith) low .1 e)));
-  side-0 = λ e. side ∙ ap byte (same-differs 1 k (given 1 k (omega arith) low .0 e));
+  side-0 = λ e. side ∙ ap byte (equal-differs graded n s f k 1 .1 (given 1 k (omega arith) low .0 e));
   additions = additions-summed n s f;
   buffer-long = λ i l. rw (holds i l) (witness-mask n s f k i small .0);
   buffer-formed = λ i l. rw (holds i l) (formed-says n _ .0 (witness-mask n s f k i small .1));
@@ -125,9 +124,6 @@ words n s f k p has is = record {
 
     side : judged graded n s f .side ≡ byte (differs graded n s f k 1)
     side = ap (sideAt graded n s f) is
-
-    same-differs : (i d : ℕ) → EqualRanks graded n s f i d → differs graded n s f d i ≡ false
-    same-differs i d e = not-one _ (λ h. unequal-differs graded n s f d i .0 h e)
 
     holds : (i : ℕ) → i ≤ 1 → ofSide i (judged graded n s f .witnesses) ≡ witnessBytes graded n s f (some k) i
     holds i l = buffer-holds graded n s f i l k is

@@ -4,9 +4,11 @@ pub mod Certificates
 pub mod CertificateNumbers
 pub mod Equal
 pub mod First
+pub mod FirstDegree
 pub mod Given
 pub mod NewPoint
 pub mod PartPoints
 pub mod Reported
+pub mod SideDegrees
 pub mod Witnesses
 pub mod WitnessBuffers

@@ -1,7 +1,9 @@
 -- The degree that is reported.
 --   FirstDiffers ..   k is the first degree at which a side differs, and no annihilator has a smaller degree
 --   unequal-differs   a side differs where the ranks are unequal, and nowhere else
+--   equal-differs     it does not where they are equal, and nowhere else
 --   equal-just        equal ranks mean that there is no annihilator up to the degree
+--   outside-differs   at degree n a side differs whose part misses a point of the set
 --   reports           a degree is reported, and is that
 use mathlib.Core.Path.{_≡_, refl, sym, _∙_}
 use mathlib.Core.Bool.{Bool, true, false, _||_, or-true, false≢true}
@@ -19,7 +21,6 @@ use Rattle.cube.specs.Cube.{size}
 use Rattle.cube.specs.Mask.{points}
 use Rattle.order.specs.Order.{Graded}
 use Rattle.cube.proofs.Listed.{member-select}
-use Rattle.cube.proofs.Masks.{member-from}
 use Rattle.gf2.proofs.Each.{member-each}
 use Rattle.polynomial.specs.Polynomial.{Polynomial, value, UpTo}
 use Rattle.polynomial.proofs.Value.{only, only-value, up-to-all}
@@ -28,6 +29,7 @@ use Rattle.filter.specs.Part.{part}
 use Rattle.immunity.specs.Judgement.{EqualRanks, differs, eitherDiffers, reported}
 use Rattle.immunity.specs.Annihilator.{Annihilator}
 use Rattle.immunity.proofs.First.{First, first-found}
+use Rattle.immunity.proofs.FirstDegree.{degree-below}
 use Rattle.immunity.proofs.Equal.{equal-none}
 use Rattle.immunity.proofs.PartPoints.{part-among}
 
@@ -44,10 +46,10 @@ module _ (o : List ℕ) (n : ℕ) (s f : List ℕ) (d side : ℕ) where
   unfolding differs
   unequal-differs = (λ h e. false≢true (rw (eq-eqb _ _ e) at h), λ h. rw (ne-eqb _ _ h))
 
-  -- and nowhere else
-  same-equal : differs o n s f d side ≡ false → EqualRanks o n s f side d
+  -- it does not where they are equal
+  pub equal-differs : (differs o n s f d side ≡ false) ↔ EqualRanks o n s f side d
   unfolding differs
-  same-equal h = eqb-true _ _ (not-false _ h)
+  equal-differs = (λ h. eqb-true _ _ (not-false _ h), λ e. rw (eq-eqb _ _ e))
 
 -- neither of two tests holds
 neither : (a b : Bool) → (a || b) ≡ false → (a ≡ false) × (b ≡ false)
@@ -66,8 +68,8 @@ module _ {o : List ℕ} (g : Graded o) {n : ℕ} (small : n ≤ 9) (s f : List �
 
   -- where the test of both sides fails, the ranks of both are equal
   both-equal : (d : ℕ) → eitherDiffers o n s f d ≡ false → (side : ℕ) → side ≤ 1 → EqualRanks o n s f side d
-  both-equal d h zero l = same-equal o n s f d 0 (neither (differs o n s f d 1) (differs o n s f d 0) h .1)
-  both-equal d h (suc zero) l = same-equal o n s f d 1 (neither (differs o n s f d 1) (differs o n s f d 0) h .0)
+  both-equal d h zero l = equal-differs o n s f d 0 .0 (neither (differs o n s f d 1) (differs o n s f d 0) h .1)
+  both-equal d h (suc zero) l = equal-differs o n s f d 1 .0 (neither (differs o n s f d 1) (differs o n s f d 0) h .0)
   both-equal d h (suc (suc side)) l = absurd (omega arith)
 
   -- the first degree at which a side differs
@@ -85,8 +87,8 @@ module _ {o : List ℕ} (g : Graded o) {n : ℕ} (small : n ≤ 9) (s f : List �
 
   module _ (inside : Inside (size n) (points s)) (a : ℕ) (point : List·Memᴰ a (points s)) where
     -- at degree n a side whose part misses a point differs: a polynomial is one just there
-    misses : (side : ℕ) → eqb (getD f a 0) side ≡ false → ¬ EqualRanks o n s f side n
-    misses side h e = equal-just side n .0 e (only n a) (up-to-all n (only n a)) (record {
+    pub outside-differs : (side : ℕ) → eqb (getD f a 0) side ≡ false → ¬ EqualRanks o n s f side n
+    outside-differs side h e = equal-just side n .0 e (only n a) (up-to-all n (only n a)) (record {
       zero = member-each (λ b. value n (only n a) b ≡ false) (part side s f) (λ b m. let k = member-select _ (points s) b .0 m in
           only-value n a b (inside b (k .1)) ∙ ne-eqb a b (λ q. false≢true (sym h ∙ rw (← q) at (k .0))));
       point = a;
@@ -99,15 +101,15 @@ module _ {o : List ℕ} (g : Graded o) {n : ℕ} (small : n ≤ 9) (s f : List �
     some-side = go (eqb (getD f a 0) 1) refl
       where
         go : (b : Bool) → eqb (getD f a 0) 1 ≡ b → eitherDiffers o n s f n ≡ true
-        go true e = rw (unequal-differs o n s f n 0 .1 (misses 0 (ne-eqb (getD f a 0) 0 (λ q. omega (arith, eqb-true (getD f a 0) 1 e)))), or-true)
-        go false e = rw (unequal-differs o n s f n 1 .1 (misses 1 e))
+        go true e = rw (unequal-differs o n s f n 0 .1 (outside-differs 0 (ne-eqb (getD f a 0) 0 (λ q. omega (arith, eqb-true (getD f a 0) 1 e)))), or-true)
+        go false e = rw (unequal-differs o n s f n 1 .1 (outside-differs 1 e))
 
     -- a degree is reported, and is the first at which a side differs
     pub reports : (k : ℕ) × (reported o n s f ≡ some k) × FirstDiffers o n s f k
     unfolding reported
-    reports = go (first-found (eitherDiffers o n s f) (below (n + 1)) (below-rising (n + 1)) n (member-from 0 (n + 1) n .1 (omega arith, omega arith)) some-side)
+    reports = go (first-found (eitherDiffers o n s f) (below (n + 1)) (below-rising (n + 1)) n (degree-below n n .1 (omega arith)) some-side)
       where
         go : First (eitherDiffers o n s f) (below (n + 1)) (reported o n s f) → (k : ℕ) × (reported o n s f ≡ some k) × FirstDiffers o n s f k
         go r =
-            let up : (0 ≤ r .place) × (r .place < 0 + (n + 1)) = member-from 0 (n + 1) (r .place) .0 (r .member) in
-            (r .place, r .is, first-reports (r .place) (omega arith) (λ d i. r .before d (member-from 0 (n + 1) d .1 (omega arith, omega arith)) i) (r .passes))
+            let up : r .place ≤ n = degree-below n (r .place) .0 (r .member) in
+            (r .place, r .is, first-reports (r .place) up (λ d i. r .before d (degree-below n d .1 (omega arith)) i) (r .passes))

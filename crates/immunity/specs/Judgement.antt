@@ -3,6 +3,7 @@
 --   differs o n s f d side      at degree d the rank of the side's part is not that of the set
 --   eitherDiffers ..            one of the two sides differs
 --   reported o n s f            the first degree at which a side differs, or none
+--   sideDegree o n s f side     a side's own degree: the first at which that side differs, or none
 --   ranksAt o n s f d           the ranks of the set, part 1 and part 0 at a degree; all 0 past n
 --   sideAt .. k                 the side for the reported degree: 1 if side 1 differs there, else 0
 --   additionsAt                 the additions of the three eliminations at a degree
@@ -46,6 +47,11 @@ unfoldable pub reported : List ℕ → ℕ → List ℕ → List ℕ → Option 
 unfolding first differs
 reported o n s f = first (eitherDiffers o n s f) (below (n + 1))
 
+-- the first degree up to n at which the side differs
+unfoldable pub sideDegree : List ℕ → ℕ → List ℕ → List ℕ → ℕ → Option ℕ
+unfolding first differs
+sideDegree o n s f side = first (λ d. differs o n s f d side) (below (n + 1))
+
 -- the ranks at a degree, all 0 past n
 unfoldable pub ranksAt : List ℕ → ℕ → List ℕ → List ℕ → ℕ → Ranks
 unfolding ranksIf
@@ -77,18 +83,20 @@ pub record Judgement : Type 0 where
   pub ranks : List Ranks
   pub degree : Option ℕ
   pub side : ℕ
+  pub degrees : Sides (Option ℕ)
   pub additions : ℕ
   pub witnesses : Sides (List ℕ)
 
 -- the judgement of a set and a table
 unfoldable pub judged : List ℕ → ℕ → List ℕ → List ℕ → Judgement
-unfolding reported ranksAt sideAt additionsAt summed witnessBytes
+unfolding reported sideDegree ranksAt sideAt additionsAt summed witnessBytes
 judged o n s f =
     let k : Option ℕ = reported o n s f in
     record {
       ranks = map (ranksAt o n s f) (below 10);
       degree = k;
       side = sideAt o n s f k;
+      degrees = bothSides (sideDegree o n s f);
       additions = summed (additionsAt o n s f) (below (n + 1));
       witnesses = bothSides (witnessBytes o n s f k);
     }

@@ -1,7 +1,8 @@
--- Annihilators, ranks that differ, witnesses and certificates.
+-- Annihilators, ranks that differ, each side's own degree, witnesses and certificates.
 pub mod Annihilator
 pub mod Certificate
 pub mod First
 pub mod Judgement
 pub mod Ranks
+pub mod SideDegree
 pub mod Witness

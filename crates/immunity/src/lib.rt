@@ -1,4 +1,4 @@
-// Restricted algebraic immunity: definitions and laws, and the one type that they share with the code.
+// Restricted algebraic immunity: definitions and laws, and the two types that they share with the code.
 // docs/SPECIFICATION.md, 'Words', 'Judge', 'Witness' and 'Certificate'.
 
 // The ranks of the set, of part 1 and of part 0 at one degree.
@@ -6,4 +6,10 @@ pub struct Ranks {
     pub set: u16,
     pub one: u16,
     pub zero: u16,
+}
+
+// A side's own degree: the first at which the rank of its part is not that of the set, or none.
+pub enum SideDegree {
+    At(usize),
+    None,
 }

@@ -1,12 +1,13 @@
 -- What Judge answers and leaves.
 --   ranks-judged      ranks found over the points of masks are those of the judgement
+--   first-given       the first degree whose ranks pass a test, of the ranks found and of the definition's
 --   first-reported    the first degree at which they differ is the reported one
 --   side-none         where the ranks of the set and of a side's part are equal, the part has no new point
 --   judgement-found   what is found is the judgement
 --   in-order          what is answered and left in an equal order
 --   refuses           a broken check
 --   accepts           no check is broken
-use mathlib.Core.Path.{_≡_, sym, ap, _∙_, subst}
+use mathlib.Core.Path.{_≡_, sym, ap, ap₂, _∙_, subst}
 use mathlib.Core.Bool.{Bool, false}
 use mathlib.Core.List.{List, map, List·Memᴰ}
 use mathlib.Core.Option.{Option, none, some}
@@ -23,22 +24,25 @@ use Rattle.refusal.proofs.Verdicts.{verdict-refuses, verdict-passes}
 use Rattle.cube.specs.NumberLists.{below, isEmpty}
 use Rattle.cube.specs.Mask.{points, byte, mask}
 use Rattle.cube.proofs.Listed.{some-member}
-use Rattle.cube.proofs.Masks.{member-from, value-at, points-inside}
+use Rattle.cube.proofs.Masks.{value-at, points-inside}
 use Rattle.order.specs.Order.{Graded}
 use Rattle.packed.specs.Packed.{zeros}
 use Rattle.gf2.specs.Points.{Rising}
 use Rattle.gf2.specs.Vector.{Each}
 use Rattle.gf2.proofs.Each.{member-each}
-use Rattle.filter.specs.Sides.{Sides, pair, ofSide}
+use Rattle.filter.specs.Sides.{Sides, pair, ofSide, bothSides}
 use Rattle.filter.specs.Filter.{Filter}
 use Rattle.filter.specs.Part.{part, bothParts}
 use Rattle.filter.proofs.Filters.{few-taps}
 use Rattle.immunity.specs.declared.Ranks.{Ranks}
+use Rattle.immunity.specs.declared.SideDegree.{SideDegree}
 use Rattle.immunity.specs.First.{first}
 use Rattle.immunity.specs.Witness.{newPoint, witnessAt}
 use Rattle.immunity.specs.Ranks.{noRanks, ranksIf, parts, ranksOf, ranksUpTo, additionsOf, partDiffers, differ}
-use Rattle.immunity.specs.Judgement.{Judgement, differs, eitherDiffers, reported, ranksAt, sideAt, additionsAt, summed, witnessBytes, judged}
+use Rattle.immunity.specs.SideDegree.{degreesOf}
+use Rattle.immunity.specs.Judgement.{Judgement, differs, reported, sideDegree, ranksAt, sideAt, additionsAt, summed, witnessBytes, judged}
 use Rattle.immunity.proofs.First.{first-same}
+use Rattle.immunity.proofs.FirstDegree.{degree-below}
 use Rattle.immunity.proofs.Given.{ranks-given}
 use Rattle.immunity.proofs.NewPoint.{new-point-none}
 use Rattle.immunity.proofs.Reported.{reports}
@@ -71,16 +75,27 @@ module _ (o : List ℕ) (n : ℕ) (s f : List ℕ) where
       ∙ sym (ap (λ x. pair (witnessBytes o n s f x 1) (witnessBytes o n s f x 0)) r)
 
   module _ (small : n ≤ 9) {ranks : List Ranks} (given : ranks ≡ whole .ranks) where
+    -- the first degree whose ranks pass a test
+    pub first-given : (t : Ranks → Bool) → first (λ d. t (getD ranks d noRanks)) (below (n + 1)) ≡ first (λ d. t (ranksOf o n d (points s) (bothParts s f))) (below (n + 1))
+    first-given t =
+        ap (λ x. first (λ d. t (getD x d noRanks)) (below (n + 1))) given
+        ∙ first-same test here (below (n + 1)) (member-each (λ d. test d ≡ here d) (below (n + 1)) (λ d m. ap t (ranks-given o n s f d (degree-below n d .0 m) small)))
+      where
+        test : ℕ → Bool
+        test d = t (getD (whole .ranks) d noRanks)
+
+        here : ℕ → Bool
+        here d = t (ranksOf o n d (points s) (bothParts s f))
+
     -- the first degree at which they differ is the reported one
     pub first-reported : first (λ d. differ (getD ranks d noRanks)) (below (n + 1)) ≡ reported o n s f
     unfolding reported differs
-    first-reported =
-        ap (λ x. first (λ d. differ (getD x d noRanks)) (below (n + 1))) given
-        ∙ first-same test (eitherDiffers o n s f) (below (n + 1)) (member-each (λ d. test d ≡ eitherDiffers o n s f d) (below (n + 1))
-        (λ d m. ap differ (ranks-given o n s f d (omega (arith, member-from 0 (n + 1) d .0 m .1)) small)))
-      where
-        test : ℕ → Bool
-        test d = differ (getD (whole .ranks) d noRanks)
+    first-reported = first-given differ
+
+    -- each side's own degree
+    degrees-judged : {ks : Sides (Option ℕ)} → ks ≡ bothSides (λ side. first (λ d. partDiffers (getD ranks d noRanks) side) (below (n + 1))) → ks ≡ whole .degrees
+    unfolding judged sideDegree differs
+    degrees-judged h = h ∙ ap₂ pair (first-given (λ r. partDiffers r 1)) (first-given (λ r. partDiffers r 0))
 
     -- the side there
     side-judged : {k side : ℕ} → k ≤ n → reported o n s f ≡ some k → side ≡ byte (partDiffers (getD ranks k noRanks) 1) → side ≡ sideAt o n s f (reported o n s f)
@@ -107,9 +122,9 @@ module _ (o : List ℕ) (n : ℕ) (ss : List ℕ) (ps : Sides (List ℕ)) (risin
     side-none (suc (suc side)) m among e = absurd (omega arith)
 
 -- judgements are equal by parts
-judgement-by : {xs ys : List Ranks} {k j : Option ℕ} {a b c d : ℕ} {v w : Sides (List ℕ)} → xs ≡ ys → k ≡ j → a ≡ b → c ≡ d → v ≡ w
-    → _≡_ {A = Judgement} (record { ranks = xs; degree = k; side = a; additions = c; witnesses = v }) (record { ranks = ys; degree = j; side = b; additions = d; witnesses = w })
-judgement-by e₁ e₂ e₃ e₄ e₅ = cc
+judgement-by : {xs ys : List Ranks} {k j : Option ℕ} {a b c d : ℕ} {ks js : Sides (Option ℕ)} {v w : Sides (List ℕ)} → xs ≡ ys → k ≡ j → a ≡ b → ks ≡ js → c ≡ d → v ≡ w
+    → _≡_ {A = Judgement} (record { ranks = xs; degree = k; side = a; degrees = ks; additions = c; witnesses = v }) (record { ranks = ys; degree = j; side = b; degrees = js; additions = d; witnesses = w })
+judgement-by e₁ e₂ e₃ e₄ e₅ e₆ = cc
 
 module _ {o : List ℕ} (g : Graded o) {n : ℕ} {s f : List ℕ} (filter : Filter n s f) (some-point : isEmpty (points s) ≡ false) {ps : Sides (List ℕ)} (p : ps ≡ bothParts s f)
     {ranks : List Ranks} (h : ranks ≡ map (ranksUpTo o n (points s) ps) (below 10))
@@ -127,17 +142,19 @@ module _ {o : List ℕ} (g : Graded o) {n : ℕ} {s f : List ℕ} (filter : Filt
         is ∙ ap some (sym (r j (first-reported o n s f small (ranks-judged o n s f p h) ∙ is)))
 
     -- what is found is the judgement
-    pub judgement-found : {side additions : ℕ} {w : Sides (List ℕ)} → side ≡ byte (partDiffers (getD ranks k noRanks) 1)
+    pub judgement-found : {side additions : ℕ} {ks : Sides (Option ℕ)} {w : Sides (List ℕ)} → side ≡ byte (partDiffers (getD ranks k noRanks) 1)
+        → ks ≡ bothSides (λ i. first (λ d. partDiffers (getD ranks d noRanks) i) (below (n + 1)))
         → additions ≡ summed (λ d. additionsOf o n d (points s) ps) (below (n + 1))
         → w ≡ pair (mask (witnessAt o n k (points s) (ps .one))) (mask (witnessAt o n k (points s) (ps .zero)))
-        → _≡_ {A = Judgement} (record { ranks = ranks; degree = some k; side = side; additions = additions; witnesses = w }) (judged o n s f)
+        → _≡_ {A = Judgement} (record { ranks = ranks; degree = some k; side = side; degrees = ks; additions = additions; witnesses = w }) (judged o n s f)
     unfolding judged
-    judgement-found a b c = judgement-by
+    judgement-found a b c e = judgement-by
         (ranks-judged o n s f p h)
         (sym is-reported)
         (side-judged o n s f small (ranks-judged o n s f p h) l is-reported a)
-        (additions-judged o n s f p b)
-        (bytes-judged o n s f p is-reported c)
+        (degrees-judged o n s f small (ranks-judged o n s f p h) b)
+        (additions-judged o n s f p c)
+        (bytes-judged o n s f p is-reported e)
 
 module _ (o s f : List ℕ) (n : ℕ) (ws one zero : List ℕ) where
   -- the checks of what is lent
@@ -167,9 +184,9 @@ module _ (o s f : List ℕ) (n : ℕ) (ws one zero : List ℕ) where
       }
 
   -- no check is broken
-  pub accepts : verdict checks ≡ verdicts.Passed → {ws′ : List ℕ} {w : Sides (List ℕ)} {ranks : List Ranks} {k side additions : ℕ} → ws′ ≡ zeros (length ws)
-      → _≡_ {A = Judgement} (record { ranks = ranks; degree = some k; side = side; additions = additions; witnesses = w }) (judged o n s f)
-      → JudgeContract outcome ws ws′ (pair one zero) w (record { finding = Judged (record { degree = k; side = side; additions = additions }); ranks = ranks })
+  pub accepts : verdict checks ≡ verdicts.Passed → {ws′ : List ℕ} {w : Sides (List ℕ)} {ranks : List Ranks} {k side additions : ℕ} {x y : SideDegree} → ws′ ≡ zeros (length ws)
+      → _≡_ {A = Judgement} (record { ranks = ranks; degree = some k; side = side; degrees = degreesOf x y; additions = additions; witnesses = w }) (judged o n s f)
+      → JudgeContract outcome ws ws′ (pair one zero) w (record { finding = Judged (record { degree = k; side = side; one = x; zero = y; additions = additions }); ranks = ranks })
   unfolding judgeOutcome
   accepts p z e =
       let passes : outcome ≡ accepted (judged o n s f) = verdict-passes checks _ p in

@@ -1,28 +1,32 @@
 -- What an acceptance of Judge shows.
---   Passes ..        what checks that pass show
---   judge-passed     checks that pass show it
---   judge-accepted   what Judge accepts is a filter whose set has a point, and is judged as the definition says
---   judge-accepts    such a filter is accepted
---   degree-small     the degree of an accepted judgement is at most 9
-use mathlib.Core.Path.{_≡_, refl, ap, _∙_}
-use mathlib.Core.Bool.{false}
+--   Passes ..           what checks that pass show
+--   judge-passed        checks that pass show it
+--   judge-accepted      what Judge accepts is a filter whose set has a point, and is judged as the definition says
+--   judge-accepts       such a filter is accepted
+--   ranks-long          an accepted judgement has ranks at ten degrees
+--   degree-small        the degree of an accepted judgement is at most 9
+--   side-degree-small   so is each side's own
+use mathlib.Core.Path.{_≡_, refl, sym, ap, _∙_}
+use mathlib.Core.Bool.{Bool, true, false}
 use mathlib.Core.List.{List}
 use mathlib.Core.Option.{some}
-use Prim.Native.Nat.{ℕ, _+_, _≤_}
+use Prim.Native.Nat.{ℕ, _≤_}
 use native.Mathlib.Omega.{arith}
-use lib.ListN.{length}
+use lib.ListN.{length, length-map}
 use borrow.Author.Tests.{eqb-true, eq-eqb}
-use Rattle.refusal.specs.Outcome.{Outcome, accepted, leftBy}
+use Rattle.refusal.specs.Outcome.{accepted}
 use Rattle.refusal.specs.Verdict.{verdict}
 use Rattle.refusal.specs.declared.verdict.Verdict.the-variants.{Passed}
 use Rattle.refusal.proofs.Verdicts.{passed-all, all-passed, verdict-passes, accepted-passes}
 use Rattle.cube.specs.NumberLists.{below, isEmpty}
 use Rattle.cube.specs.Mask.{points}
-use Rattle.cube.proofs.Masks.{member-from}
+use Rattle.cube.proofs.Masks.{length-from}
+use Rattle.filter.specs.Sides.{sideIf}
 use Rattle.filter.specs.Filter.{Filter}
 use Rattle.filter.proofs.Filters.{a-filter, some-point, passes, few-taps}
-use Rattle.immunity.specs.Judgement.{Judgement, eitherDiffers, reported, judged}
-use Rattle.immunity.proofs.First.{first-passes}
+use Rattle.immunity.specs.Judgement.{Judgement, eitherDiffers, reported, sideDegree, ranksAt, judged}
+use Rattle.immunity.proofs.FirstDegree.{first-degree}
+use Rattle.immunity.proofs.SideDegrees.{side-first}
 use Rattle.judge.specs.Judge.{judgeChecks, judgeOutcome, JudgeAccepts}
 
 -- what checks that pass show
@@ -61,11 +65,33 @@ module _ (o : List ℕ) (n : ℕ) (s f : List ℕ) where
       verdict-passes (judgeChecks s f n 8192 512 512) (accepted (judged o n s f)) (all-passed (judgeChecks s f n 8192 512 512)
       (eq-eqb (length s) 512 (h .set-long), (eq-eqb (length f) 512 (h .table-long), (refl, (refl, (refl, (h .tapped, passes n s f h point)))))))
 
--- a degree of an accepted judgement is at most 9
-pub degree-small : (o s f : List ℕ) (n m p q : ℕ) (j : Judgement) (k : ℕ) → judgeOutcome o s f n m p q ≡ accepted j → j .degree ≡ some k → k ≤ 9
-unfolding judgeOutcome judged reported
-degree-small o s f n m p q j k e h =
-    let (holds, same) = accepted-passes (judgeChecks s f n m p q) (accepted (judged o n s f)) j e in
-    let first : reported o n s f ≡ some k = ap (λ (y : Outcome Judgement). leftBy y (some k) (λ i. i .degree)) same ∙ h in
-    let member = first-passes (eitherDiffers o n s f) (below (n + 1)) k first .0 in
-    omega (arith, few-taps n s f (judge-passed n s f m p q holds .filter), member-from 0 (n + 1) k .0 member .1)
+module _ (o s f : List ℕ) (n m p q : ℕ) (j : Judgement) (e : judgeOutcome o s f n m p q ≡ accepted j) where
+  -- what is accepted is the judgement of a filter
+  accepted-filter : Filter n s f × (judged o n s f ≡ j)
+  unfolding judgeOutcome
+  accepted-filter =
+      let (holds, same) = accepted-passes (judgeChecks s f n m p q) (accepted (judged o n s f)) j e in
+      (judge-passed n s f m p q holds .filter, cc same)
+
+  -- it has ranks at ten degrees
+  pub ranks-long : length (j .ranks) ≡ 10
+  unfolding judged
+  ranks-long = sym (ap (λ (x : Judgement). length (x .ranks)) (accepted-filter .1)) ∙ length-map (below 10) (ranksAt o n s f) ∙ length-from 0 10
+
+  -- its degree is at most 9
+  pub degree-small : (k : ℕ) → j .degree ≡ some k → k ≤ 9
+  unfolding judged reported
+  degree-small k h =
+      let (filter, is) = accepted-filter in
+      let first : reported o n s f ≡ some k = ap (λ (x : Judgement). x .degree) is ∙ h in
+      omega (arith, few-taps n s f filter, first-degree (eitherDiffers o n s f) n k .0 first .within)
+
+  -- so is a side's own
+  low : (side d : ℕ) → sideDegree o n s f side ≡ some d → d ≤ 9
+  low side d is = omega (arith, few-taps n s f (accepted-filter .0), side-first o n s f side d .0 is .0)
+
+  -- that of either side, as the judgement has it
+  pub side-degree-small : (b : Bool) (d : ℕ) → sideIf b (j .degrees) ≡ some d → d ≤ 9
+  unfolding judged
+  side-degree-small true d h = low 1 d (ap (λ (x : Judgement). x .degrees .one) (accepted-filter .1) ∙ h)
+  side-degree-small false d h = low 0 d (ap (λ (x : Judgement). x .degrees .zero) (accepted-filter .1) ∙ h)

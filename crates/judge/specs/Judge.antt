@@ -17,6 +17,7 @@ use Rattle.filter.specs.Sides.{Sides}
 use Rattle.filter.specs.Checks.{lengthIs, tapsOf, filterLengths, filterMasks}
 use Rattle.immunity.specs.declared.Ranks.{Ranks}
 use Rattle.immunity.specs.Ranks.{noRanks}
+use Rattle.immunity.specs.SideDegree.{degreesOf}
 use Rattle.immunity.specs.Judgement.{Judgement, judged}
 use Rattle.judge.specs.declared.JudgeAnswer.{JudgeAnswer}
 use Rattle.judge.specs.declared.Finding.{Finding}
@@ -33,7 +34,7 @@ judgeOutcome o s f n m p q = checked (judgeChecks s f n m p q) (accepted (judged
 -- the number or the values of what was found
 abbrev pub found : Finding → List Ranks → Sides (List ℕ) → Outcome Judgement
 found (Refused x) ranks w = refused (numberOf x)
-found (Judged r) ranks w = accepted (record { ranks = ranks; degree = some (r .degree); side = r .side; additions = r .additions; witnesses = w })
+found (Judged r) ranks w = accepted (record { ranks = ranks; degree = some (r .degree); side = r .side; degrees = degreesOf (r .one) (r .zero); additions = r .additions; witnesses = w })
 
 -- the same of an answer
 abbrev pub outcomeOf : JudgeAnswer → Sides (List ℕ) → Outcome Judgement

@@ -1,5 +1,5 @@
 // Judge: docs/SPECIFICATION.md, 'Judge'. The ranks of a set and of its two parts at each degree, the reported degree,
-// and the witnesses.
+// each side's own, and the witnesses.
 ghost use mathlib.Core.Path.{_≡_};
 ghost use mathlib.Core.Option.{none};
 ghost use Prim.Native.Nat.{_≤_};
@@ -18,7 +18,8 @@ ghost use Rattle.judge.specs.Judge.{judgeChecks, judgeOutcome, JudgeCont
 use cube::POINTS;
 use degree_ranks::DEGREES;
 use degree_ranks::all_ranks;
-use degree_ranks::first_difference;
+use degree_ranks::found_degrees;
+use degree_ranks::part_differs;
 use degree_ranks::side_of;
 use filter::checks::check_filter_lengths;
 use filter::checks::check_filter_masks;
@@ -26,6 +27,7 @@ use filter::checks::check_length;
 use filter::checks::check_taps;
 use filter::part::part_mask;
 use immunity::Ranks;
+use immunity::SideDegree;
 use order::graded_order;
 use packed::WORKSPACE;
 use packed::row::clear;
@@ -34,10 +36,12 @@ use refusal::Refusal;
 use refusal::verdict::Verdict;
 use witness::write_side;
 
-// What Judge reports beside the ranks.
+// What Judge reports beside the ranks; `one` is side 1's own degree, `zero` side 0's.
 pub struct Report {
     pub degree: usize,
     pub side: u8,
+    pub one: SideDegree,
+    pub zero: SideDegree,
     pub additions: u32,
 }
 
@@ -53,8 +57,8 @@ pub struct JudgeAnswer {
     pub ranks: [Ranks; 10],
 }
 
-// The ranks of the set and its parts at each degree, the first degree at which a part's rank differs from the set's, and
-// the witness of each side that differs there; for a set and a table of `n` taps.
+// The ranks of the set and its parts at each degree, the first degree at which a part's rank differs from the set's, each
+// side's own such degree, and the witness of each side that differs at the first; for a set and a table of `n` taps.
 pub fn judge(
     set: &[u8],
     table: &[u8],
@@ -127,7 +131,10 @@ fn judge_points(
     fill_rows(workspace, order, n);
     let found = all_ranks(workspace, order, set, &part_one, &part_zero, n);
     let ranks = found.ranks;
-    let k = first_difference(ranks, n);
+    let degrees = found_degrees(ranks, n);
+    let k = degrees.reported;
+    let of_one = degrees.one;
+    let of_zero = degrees.zero;
     let here = ranks[k];
     write_witnesses(
         workspace,
@@ -145,6 +152,8 @@ fn judge_points(
     let report = Report {
         degree: k,
         side: side_of(here),
+        one: of_one,
+        zero: of_zero,
         additions: found.additions,
     };
     JudgeAnswer {
@@ -173,6 +182,6 @@ fn write_witnesses(
     ensures { λ _. ⌜ now (one .exit) ≡ mask (witnessAt (now (order .entry)) n d (points (now (set .entry))) (points (now (p .entry)))) ⌝ }
     ensures { λ _. ⌜ now (zero .exit) ≡ mask (witnessAt (now (order .entry)) n d (points (now (set .entry))) (points (now (q .entry)))) ⌝ }
 {
-    write_side(ws, order, set, p, n, d, r.set != r.one, one);
-    write_side(ws, order, set, q, n, d, r.set != r.zero, zero);
+    write_side(ws, order, set, p, n, d, part_differs(r, 1), one);
+    write_side(ws, order, set, q, n, d, part_differs(r, 0), zero);
 }

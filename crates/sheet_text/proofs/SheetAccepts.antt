@@ -20,6 +20,7 @@ use Rattle.order.proofs.BuiltIn.{graded-is-graded}
 use Rattle.filter.specs.Sides.{Sides}
 use Rattle.filter.specs.Filter.{Filter}
 use Rattle.filter.proofs.Filters.{few-taps}
+use Rattle.immunity.specs.SideDegree.{degreesOf}
 use Rattle.immunity.specs.Judgement.{Judgement, reported, judged}
 use Rattle.immunity.specs.Certificate.{certificate}
 use Rattle.immunity.proofs.Reported.{FirstDiffers, reports}
@@ -46,7 +47,7 @@ module _ (n : ℕ) (s f : List ℕ) (a : JudgeAccepts graded n s f (judged grade
 
       -- the judgement
       pub judge-found : (x : Report) → r .finding ≡ Judged x
-          → _≡_ {A = Judgement} (record { ranks = r .ranks; degree = some (x .degree); side = x .side; additions = x .additions; witnesses = w′ }) (judged graded n s f)
+          → _≡_ {A = Judgement} (record { ranks = r .ranks; degree = some (x .degree); side = x .side; degrees = degreesOf (x .one) (x .zero); additions = x .additions; witnesses = w′ }) (judged graded n s f)
       judge-found x e = value-of _ (judged graded n s f) (ap (λ y. found y (r .ranks) w′) (sym e) ∙ answered)
 
       -- no refusal

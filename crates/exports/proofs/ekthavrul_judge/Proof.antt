@@ -46,7 +46,7 @@ report-of-requires : tie.Need-report-of-requires
 report-of-requires c κs =
     let x = c .before .before in
     let j = x .before .before .before .before .before .before .before .before in
-    degree-small _ _ _ _ _ _ _ _ _ (sym (states (j .judge .ensures) (x .finding2 .given .1))) refl
+    degree-small _ _ _ _ _ _ _ _ (sym (states (j .judge .ensures) (x .finding2 .given .1))) _ refl
 
 returns : tie.Need-returns
 returns c =

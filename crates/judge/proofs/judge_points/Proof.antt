@@ -36,13 +36,13 @@ masks-of f = f .before .before
 abbrev filled-of : tie.After-all-ranks → tie.After-fill-rows
 filled-of r = r .before .before .before .before .before .before
 
--- the ranks, from the reported degree
-abbrev ranks-of : tie.After-first-difference → tie.After-all-ranks
+-- the ranks, from the degrees
+abbrev ranks-of : tie.After-found-degrees → tie.After-all-ranks
 ranks-of k = k .before .before .before .before
 
--- the reported degree, from the witnesses
-abbrev degree-of : tie.After-write-witnesses → tie.After-first-difference
-degree-of w = w .before .before .before .before .before .before .before
+-- the degrees, from the witnesses
+abbrev degrees-of : tie.After-write-witnesses → tie.After-found-degrees
+degrees-of w = w .before .before .before .before .before .before .before
 
 -- the witnesses, from the cleared workspace
 abbrev witnesses-of : tie.After-clear → tie.After-write-witnesses
@@ -111,12 +111,12 @@ all-ranks-requires c κs =
     let q = masks-of f in
     (filled-ready f, marks-set (start (q .before)), marks-one (q .before), marks-zero q)
 
-first-difference-requires : tie.Need-first-difference-requires
-first-difference-requires c κs = small (start-by (c .before .before .before))
+found-degrees-requires : tie.Need-found-degrees-requires
+found-degrees-requires c κs = small (start-by (c .before .before .before))
 
 -- the reported degree is at most 9
-low : (k : tie.After-first-difference) → k .first-difference .result ≤ 9
-low k = omega (arith, k .first-difference .ensures .1, small (start-by (ranks-of k)))
+low : (k : tie.After-found-degrees) → k .found-degrees .result .reported ≤ 9
+low k = omega (arith, k .found-degrees .ensures .1 .1, small (start-by (ranks-of k)))
 
 -- the workspace is still ready
 ranked-ready : (r : tie.After-all-ranks) → let a = start-by r .args in Ready (a .order .now) (a .n) (r .all-ranks .last .0)
@@ -130,12 +130,12 @@ write-witnesses-requires c κs =
     let s = start-by r in
     let a = s .args in
     let none = side-none (a .order .now) (a .n) (points (a .set .now)) (pair (points (q .before .part-mask .result)) (points (q .part-mask2 .result))) (points-rising (a .set .now)) (small s)
-    (r .all-ranks .result .ranks) (r .all-ranks .ensures .0) (k .first-difference .result) (k .first-difference .ensures .1) in (
+    (r .all-ranks .result .ranks) (r .all-ranks .ensures .0) (k .found-degrees .result .reported) (k .found-degrees .ensures .1 .1) in (
       ranked-ready r,
       marks-set s,
       marks-one (q .before),
       marks-zero q,
-      k .first-difference .ensures .1,
+      k .found-degrees .ensures .1 .1,
       shown s .one-long,
       shown s .zero-long,
       none 1 (omega arith) (rw (q .before .part-mask .ensures) (part-among 1 (a .set .now) (a .table .now))),
@@ -143,20 +143,23 @@ write-witnesses-requires c κs =
     )
 
 -- the workspace keeps its length up to where it is cleared
-kept : (w : tie.After-write-witnesses) → length (w .write-witnesses .last .0) ≡ length (start-by (ranks-of (degree-of w)) .args .workspace .now)
-kept w = let r = ranks-of (degree-of w) in w .write-witnesses .kept .0 ∙ r .all-ranks .kept .0 ∙ filled-of r .fill-rows .kept .0
+kept : (w : tie.After-write-witnesses) → length (w .write-witnesses .last .0) ≡ length (start-by (ranks-of (degrees-of w)) .args .workspace .now)
+kept w = let r = ranks-of (degrees-of w) in w .write-witnesses .kept .0 ∙ r .all-ranks .kept .0 ∙ filled-of r .fill-rows .kept .0
+
+same-length : tie.Need-same-length
+same-length c = let e = c .before .before .before in e .clear .kept .0 ∙ kept (witnesses-of e)
 
 returns : tie.Need-returns
 returns c =
     let e = c .before .before .before in
     let w = witnesses-of e in
-    let k = degree-of w in
+    let k = degrees-of w in
     let r = ranks-of k in
     let s = start-by r in
     let a = s .args in
     accepts (a .order .now) (a .set .now) (a .table .now) (a .n) (a .workspace .now) (a .one .now) (a .zero .now) (s .pre .0) (e .clear .ensures ∙ ap zeros (kept w))
-    (judgement-found (s .pre .1) (shown s .filter) (shown s .some) (two-parts (masks-by r)) (r .all-ranks .ensures .0) (k .first-difference .ensures .1) (k .first-difference .ensures .0)
-    (c .side-of .ensures) (r .all-ranks .ensures .1 .0) (ap₂ pair (w .write-witnesses .ensures .0) (w .write-witnesses .ensures .1)))
+    (judgement-found (s .pre .1) (shown s .filter) (shown s .some) (two-parts (masks-by r)) (r .all-ranks .ensures .0) (k .found-degrees .ensures .1 .1) (k .found-degrees .ensures .1 .0)
+    (c .side-of .ensures) (k .found-degrees .ensures .0) (r .all-ranks .ensures .1 .0) (ap₂ pair (w .write-witnesses .ensures .0) (w .write-witnesses .ensures .1)))
 
 pub judge-points-spec : {M : Type 1} → statement M
 judge-points-spec =
@@ -168,7 +171,7 @@ judge-points-spec =
     (λ c. search needs)
     (λ c. search needs)
     all-ranks-requires
-    first-difference-requires
+    found-degrees-requires
     (λ c. omega (arith, low c))
     (λ c. omega (arith, low c))
     (λ c. search needs)
@@ -176,7 +179,7 @@ judge-points-spec =
     write-witnesses-requires
     (λ c κs. search needs)
     (λ c κs. search needs)
-    (λ c. search needs)
+    same-length
     (λ c. search needs)
     (λ c. search needs)
     returns)
