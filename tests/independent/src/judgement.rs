@@ -1,7 +1,6 @@
 // Judge, Certify and Hand over: docs/SPECIFICATION.md, 'Judge' to 'Hand over'.
 use crate::filter::Filter;
-use crate::normal_form::within;
-use crate::rank::{columns, points_of, ranking, row, row_span};
+use crate::rank::{column_vectors, points_of, ranking, row, row_span};
 use crate::refusal::{CERTIFICATE, POINTS, Refusal, WORKSPACE, lengths, require, taps};
 use crate::span::{Bits, Span};
 
@@ -26,8 +25,7 @@ fn witness(points: &[usize], part: &[usize], n: usize, d: usize) -> Bits {
     let rows = row_span(part, d);
     let outside = points.iter().find(|a| rows.express(row(d, **a)).is_none());
     let p = *outside.expect("the side differs");
-    let column = |u: usize| part.iter().chain([&p]).copied().filter(move |a| within(u, *a)).collect();
-    let kept: Span = columns(n, d).into_iter().map(|u| (u, column(u))).collect();
+    let kept: Span = column_vectors(&[part, &[p]].concat(), n, d).collect();
     kept.express(Bits::from_iter([p])).expect("the row of p is not a sum of rows of the part")
 }
 

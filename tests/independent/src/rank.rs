@@ -20,6 +20,11 @@ pub fn row(d: usize, a: usize) -> Bits {
     (0..=a).filter(|u| within(*u, a) && weight(*u) <= d).collect()
 }
 
+// The columns of the points at degree d, in graded order, each after its exponent: the points within which that lies.
+pub fn column_vectors(points: &[usize], n: usize, d: usize) -> impl Iterator<Item = (usize, Bits)> {
+    columns(n, d).into_iter().map(move |u| (u, points.iter().copied().filter(|a| within(u, *a)).collect()))
+}
+
 // The span of the rows of the points at degree d, each under its point.
 pub fn row_span(points: &[usize], d: usize) -> Span {
     points.iter().map(|a| (*a, row(d, *a))).collect()

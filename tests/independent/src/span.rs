@@ -81,3 +81,16 @@ impl Span {
         (rest == Bits::default()).then_some(names)
     }
 }
+
+// A basis of the choices of named vectors that sum to zero: each vector that is not kept, with the kept ones that sum
+// to it.
+pub fn relations(vectors: impl Iterator<Item = (usize, Bits)>) -> Vec<Bits> {
+    let (mut span, mut found) = (Span::default(), Vec::new());
+    for (name, vector) in vectors {
+        match span.express(vector) {
+            Some(names) => found.push(names.plus(Bits::from_iter([name]))),
+            None => span.take(name, vector),
+        }
+    }
+    found
+}

@@ -1,9 +1,9 @@
 // Rank of the independent implementation, against the starred cases and plain counting.
 use independent::normal_form::weight;
 use independent::random::Random;
-use independent::rank::{Ranking, columns, eliminate, points_of, rank, ranking, row};
+use independent::rank::{Ranking, column_vectors, columns, eliminate, points_of, rank, ranking, row};
 use independent::samples::mask_of;
-use independent::span::{Bits, Span};
+use independent::span::{Bits, Span, relations};
 
 // Rank of the mask, with a workspace full of ones.
 fn ranked(mask: &[u8], n: usize, d: usize) -> Result<Ranking, u8> {
@@ -92,6 +92,28 @@ fn a_span_expresses_its_members_by_kept_names() {
                 assert_eq!(sum, row(2, a));
             }
         }
+    }
+}
+
+// The sum of the vectors whose names are chosen.
+fn sum(vectors: &[(usize, Bits)], chosen: impl Fn(&usize) -> bool) -> Bits {
+    vectors.iter().filter(|(name, _)| chosen(name)).fold(Bits::default(), |sum, (_, vector)| sum.plus(*vector))
+}
+
+#[test]
+fn relations_are_a_basis_of_the_choices_of_columns_that_sum_to_zero() {
+    for (bits, d) in (0..256).flat_map(|bits| [0, 1, 2, 3].map(|d| (bits, d))) {
+        let points = points_of(&mask_of(3, |a| bits >> a & 1 == 1));
+        let vectors: Vec<(usize, Bits)> = column_vectors(&points, 3, d).collect();
+        let found = relations(vectors.iter().copied());
+        for names in found.iter().map(|names| names.places().collect::<Vec<usize>>()) {
+            assert!(names.iter().all(|u| weight(*u) <= d));
+            assert_eq!(sum(&vectors, |u| names.contains(u)), Bits::default());
+        }
+        let zero_sums = (0..256).filter(|choice| sum(&vectors, |u| choice >> u & 1 == 1) == Bits::default());
+        let without_column = 8 - vectors.len();
+        assert_eq!(zero_sums.count(), 1 << (found.len() + without_column), "points {points:?}, d = {d}");
+        assert_eq!(found.iter().copied().enumerate().collect::<Span>().rank(), found.len());
     }
 }
 
