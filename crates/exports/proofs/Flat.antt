@@ -1,20 +1,25 @@
--- The numbers of a report, stored three at a time.
+-- The numbers of a report: the ranks, stored three at a time, and the five behind them.
 --   flat-none              no degree is written yet
 --   stored out k x y z     three numbers are stored in a list, from place k on
 --   length-stored          which leaves its length
 --   flat-next              the ranks of one degree more
---   flat-last              the three numbers behind the ranks of all degrees
-use mathlib.Core.Path.{_≡_, refl, sym, ap, _∙_}
+--   flat-last              the five numbers behind the ranks of all degrees
+--   degrees-at             where the sides' own degrees stand among them
+--   number-most            the number of a degree up to 9, or of none, is at most 10
+--   number-none            it is 10 exactly where there is none
+use mathlib.Core.Path.{_≡_, refl, sym, ap, ap₂, _∙_}
+use mathlib.Core.Logic.{_↔_}
 use mathlib.Core.List.{List, [], _∷_, _++_, append-assoc}
-use mathlib.Core.Option.{some}
-use Prim.Native.Nat.{ℕ, suc, _+_, _*_, _<_}
+use mathlib.Core.Option.{Option, none, some}
+use Prim.Native.Nat.{ℕ, suc, _+_, _*_, _≤_, _<_}
 use native.Mathlib.Numerals.{add-one}
 use native.Mathlib.Omega.{arith}
 use lib.ListN.{length, getD, set, take, length-set}
-use lib.Seq.{take-all, take-suc, take-suc-set}
+use lib.Seq.{take-all, take-suc, take-suc-set, getD-append-add}
+use Rattle.filter.specs.Sides.{Sides}
 use Rattle.immunity.specs.declared.Ranks.{Ranks}
 use Rattle.immunity.specs.Ranks.{noRanks}
-use Rattle.exports.specs.Report.{flat, numbers}
+use Rattle.exports.specs.Report.{flat, degreeNumber, numbers}
 
 -- no degree is written yet
 pub flat-none : (out : List ℕ) (rs : List Ranks) → take (3 * 0) out ≡ flat (take 0 rs)
@@ -62,11 +67,55 @@ flat-next out rs d l m e =
     ∙ ap (λ xs. xs ++ (r .set ∷ r .one ∷ r .zero ∷ [])) e
     ∙ sym (ap (λ k. flat (take k rs)) (add-one d) ∙ ap flat (take-suc rs d noRanks l) ∙ flat-snoc (take d rs) r)
 
--- the three numbers behind the ranks of all degrees
-pub flat-last : (out : List ℕ) (rs : List Ranks) (k side a : ℕ) → length out ≡ 33 → take 30 out ≡ flat rs
-    → stored out 30 k side a ≡ numbers rs (some k) side a
+-- the five numbers behind the ranks of all degrees
+pub flat-last : (out : List ℕ) (rs : List Ranks) (k side a : ℕ) (ks : Sides (Option ℕ)) {x y : ℕ} → length out ≡ 35 → take 30 out ≡ flat rs
+    → x ≡ degreeNumber (ks .one) → y ≡ degreeNumber (ks .zero) → set (set (stored out 30 k side a) 33 x) 34 y ≡ numbers rs (some k) side a ks
 unfolding numbers
-flat-last out rs k side a l e =
-    sym (take-all 33 (stored out 30 k side a) (omega (arith, length-stored out 30 k side a)))
-    ∙ take-stored out 30 k side a (omega arith)
-    ∙ ap (λ xs. xs ++ (k ∷ side ∷ a ∷ [])) e
+flat-last out rs k side a ks {x} {y} l e e₁ e₀ =
+    let three : List ℕ = stored out 30 k side a in
+    let four : List ℕ = set three 33 x in
+    let long : length three ≡ 35 = length-stored out 30 k side a ∙ l in
+    let first : List ℕ = flat rs ++ (k ∷ side ∷ a ∷ []) in
+    let b : take 33 three ≡ first = take-stored out 30 k side a (omega arith) ∙ ap (λ xs. xs ++ (k ∷ side ∷ a ∷ [])) e in
+    let c : take 34 four ≡ take 33 three ++ (x ∷ []) = take-suc-set three 33 x (omega arith) in
+    let d : take 35 (set four 34 y) ≡ take 34 four ++ (y ∷ []) = take-suc-set four 34 y (omega (arith, length-set three 33 x)) in
+    sym (take-all 35 (set four 34 y) (omega (arith, length-set four 34 y, length-set three 33 x)))
+    ∙ d
+    ∙ ap (λ xs. xs ++ (y ∷ [])) (c ∙ ap (λ xs. xs ++ (x ∷ [])) b)
+    ∙ append-assoc first (x ∷ []) (y ∷ [])
+    ∙ append-assoc (flat rs) (k ∷ side ∷ a ∷ []) (x ∷ y ∷ [])
+    ∙ ap₂ (λ u v. flat rs ++ (k ∷ side ∷ a ∷ u ∷ v ∷ [])) e₁ e₀
+
+-- the numbers of ranks are three for each
+length-flat : (rs : List Ranks) → length (flat rs) ≡ 3 * length rs
+unfolding flat
+length-flat [] = refl
+length-flat (r ∷ rs) = omega (arith, length-flat rs)
+
+-- where the sides' own degrees stand in a report
+pub degrees-at : (rs : List Ranks) (k : Option ℕ) (side a : ℕ) (ks : Sides (Option ℕ)) → length rs ≡ 10
+    → (getD (numbers rs k side a ks) 33 0 ≡ degreeNumber (ks .one)) × (getD (numbers rs k side a ks) 34 0 ≡ degreeNumber (ks .zero))
+unfolding numbers
+degrees-at rs k side a ks l =
+    let last : List ℕ = degreeNumber k ∷ side ∷ a ∷ degreeNumber (ks .one) ∷ degreeNumber (ks .zero) ∷ [] in
+    let long : length (flat rs) ≡ 30 = omega (arith, length-flat rs) in (
+      sym (ap (λ m. getD (flat rs ++ last) (m + 3) 0) long) ∙ getD-append-add (flat rs) last 3 0,
+      sym (ap (λ m. getD (flat rs ++ last) (m + 4) 0) long) ∙ getD-append-add (flat rs) last 4 0,
+    )
+
+module _ (x : Option ℕ) (small : (d : ℕ) → x ≡ some d → d ≤ 9) where
+  -- at most 10
+  pub number-most : degreeNumber x ≤ 10
+  number-most = go x small
+    where
+      go : (y : Option ℕ) → ((d : ℕ) → y ≡ some d → d ≤ 9) → degreeNumber y ≤ 10
+      go none l = omega arith
+      go (some d) l = omega (arith, l d refl)
+
+  -- 10 exactly where there is none
+  pub number-none : (degreeNumber x ≡ 10) ↔ (x ≡ none)
+  number-none = (go x small, λ e. ap degreeNumber e)
+    where
+      go : (y : Option ℕ) → ((d : ℕ) → y ≡ some d → d ≤ 9) → degreeNumber y ≡ 10 → y ≡ none
+      go none l e = refl
+      go (some d) l e = absurd (omega (arith, l d refl))

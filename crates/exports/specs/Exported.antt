@@ -8,10 +8,11 @@
 --   inFront part copy    a buffer with a part at its front, as many bytes as it has room for
 --   HandOverStatus ..    the length of the part that Hand over hands back, and its copy
 use mathlib.Core.Path.{_≡_}
+use mathlib.Core.Logic.{_↔_}
 use mathlib.Core.List.{List, _++_}
-use mathlib.Core.Option.{some}
+use mathlib.Core.Option.{none, some}
 use Prim.Native.Nat.{ℕ, min}
-use lib.ListN.{length, take, drop}
+use lib.ListN.{length, getD, take, drop}
 use Rattle.cube.specs.NumberLists.{lists}
 use Rattle.cube.specs.Mask.{mask}
 use Rattle.refusal.specs.Outcome.{Outcome, accepted, left, leftBy}
@@ -45,13 +46,15 @@ pub record RankStatus (o : Outcome Ranked) (ws ws′ : List ℕ) (k k′ a a′ 
   pub rank : k′ ≡ leftBy o k (λ x. x .rank)
   pub additions : a′ ≡ leftBy o a (λ x. x .additions)
 
--- Judge: workspace, witness buffers and report at entry and at exit; the degree that it holds is one
+-- Judge: workspace, witness buffers and report at entry and at exit; the degree that it holds is one, and
+-- side 1's own degree stands at 33, side 0's at 34, each 10 exactly where there is none
 pub record JudgeStatus (o : Outcome Judgement) (ws ws′ : List ℕ) (w w′ : Sides (List ℕ)) (ns ns′ : List ℕ) (r : ℕ) : Type 0 where
   pub status : r ≡ statusOf o
   pub workspace : ws′ ≡ left o ws (zeros (length ws))
   pub witnesses : w′ ≡ leftBy o w (λ j. j .witnesses)
   pub report : ns′ ≡ leftBy o ns reportOf
   pub reported : (j : Judgement) → o ≡ accepted j → (k : ℕ) × (j .degree ≡ some k)
+  pub none-named : (j : Judgement) → o ≡ accepted j → ((getD ns′ 33 0 ≡ 10) ↔ (j .degrees .one ≡ none)) × ((getD ns′ 34 0 ≡ 10) ↔ (j .degrees .zero ≡ none))
 
 -- Certify: workspace and certificate at entry and at exit
 pub record CertifyStatus (o : Outcome (List ℕ)) (ws ws′ c c′ : List ℕ) (r : ℕ) : Type 0 where

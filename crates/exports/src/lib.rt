@@ -109,7 +109,8 @@ pub extern "C" fn ekthavrul_rank(
     }
 }
 
-// Judge: the ranks at each degree, the reported degree, the side and the count of additions go to `report`.
+// Judge: the ranks at each degree, the reported degree, the side, the count of additions and each side's own degree go to
+// `report`.
 #[no_mangle]
 pub extern "C" fn ekthavrul_judge(
     set: &[u8],
@@ -129,7 +130,7 @@ pub extern "C" fn ekthavrul_judge(
         Finding::Refused(x) => refusal::number(x),
         Finding::Judged(found) => {
             let ranks = answer.ranks;
-            *report = report_of(ranks, found.degree, found.side, found.additions);
+            *report = report_of(ranks, found);
             0
         }
     }

@@ -3,11 +3,14 @@
 ghost use mathlib.Core.Path.{_≡_};
 ghost use mathlib.Core.Option.{some};
 ghost use Prim.Native.Nat.{_≤_};
-ghost use Rattle.exports.specs.Report.{numbers as numbersOf};
+ghost use Rattle.immunity.specs.SideDegree.{degreeOf, degreesOf};
+ghost use Rattle.exports.specs.Report.{degreeNumber, numbers as numbersOf};
 use immunity::Ranks;
+use immunity::SideDegree;
+use judge::Report;
 
 // The length of the report.
-pub const REPORT: usize = 33;
+pub const REPORT: usize = 35;
 
 // The rank of the set at degree 0. At degree d it stands RANKS_OF_DEGREE * d further on, and so do the two behind it.
 const RANK_SET_AT: usize = 0;
@@ -30,13 +33,33 @@ const SIDE_AT: usize = 31;
 // The count of additions.
 const ADDITIONS_AT: usize = 32;
 
+// Side 1's own degree.
+const DEGREE_ONE_AT: usize = 33;
+
+// Side 0's own degree.
+const DEGREE_ZERO_AT: usize = 34;
+
+// The number for a side that has no degree.
+const NO_DEGREE: u32 = 10;
+
 // The number of degrees of nine taps.
 const DEGREES: usize = 10;
 
-// The report with these ranks at each degree, the reported degree, the side and the count of additions.
-pub fn report_of(ranks: [Ranks; DEGREES], degree: usize, side: u8, additions: u32) -> [u32; REPORT]
-    requires { ⌜ degree ≤ 9 ⌝ }
-    ensures { λ r. ⌜ r ≡ numbersOf ranks (some degree) side additions ⌝ }
+// The number for a side's own degree, which is at most 10 and so fits in 32 bits.
+fn degree_number(degree: SideDegree) -> u32
+    requires { ⌜ degreeNumber (degreeOf degree) ≤ 10 ⌝ }
+    ensures { λ r. ⌜ r ≡ degreeNumber (degreeOf degree) ⌝ }
+{
+    match degree {
+        SideDegree::At(d) => d as u32,
+        SideDegree::None => NO_DEGREE,
+    }
+}
+
+// The report of what Judge found, with these ranks at each degree.
+pub fn report_of(ranks: [Ranks; DEGREES], found: Report) -> [u32; REPORT]
+    requires { ⌜ (found .degree ≤ 9) × (degreeNumber (degreeOf (found .one)) ≤ 10) × (degreeNumber (degreeOf (found .zero)) ≤ 10) ⌝ }
+    ensures { λ r. ⌜ r ≡ numbersOf ranks (some (found .degree)) (found .side) (found .additions) (degreesOf (found .one) (found .zero)) ⌝ }
 {
     let mut numbers = [0u32; REPORT];
     let mut d: usize = 0;
@@ -48,8 +71,12 @@ pub fn report_of(ranks: [Ranks; DEGREES], degree: usize, side: u8, additions: u3
         numbers[at + RANK_ZERO_AT] = here.zero as u32;
         d += 1;
     }
-    numbers[DEGREE_AT] = degree as u32;
-    numbers[SIDE_AT] = side as u32;
-    numbers[ADDITIONS_AT] = additions;
+    numbers[DEGREE_AT] = found.degree as u32;
+    numbers[SIDE_AT] = found.side as u32;
+    numbers[ADDITIONS_AT] = found.additions;
+    let one = found.one;
+    let zero = found.zero;
+    numbers[DEGREE_ONE_AT] = degree_number(one);
+    numbers[DEGREE_ZERO_AT] = degree_number(zero);
     numbers
 }

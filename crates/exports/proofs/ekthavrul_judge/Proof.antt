@@ -1,22 +1,26 @@
 -- The contract of `judge`, read at the finding that was matched, states the outcome; status and report are those of what the finding states (left-by).
 use borrow.Author.Needs.{needs}
 use mathlib.Core.Path.{_≡_, refl, sym, ap, _∙_}
+use mathlib.Core.Logic.{_↔_}
+use mathlib.Core.Bool.{Bool, true, false}
 use mathlib.Core.List.{List}
 use mathlib.Core.Option.{none, some}
-use Prim.Native.Nat.{ℕ}
+use Prim.Native.Nat.{ℕ, _≤_}
+use lib.ListN.{length, getD}
 use Rattle.refusal.specs.Outcome.{Outcome, accepted, leftBy}
 use Rattle.refusal.proofs.Outcomes.{not-both}
-use Rattle.filter.specs.Sides.{Sides}
+use Rattle.filter.specs.Sides.{Sides, sideIf}
 use Rattle.immunity.specs.Judgement.{Judgement}
 use Rattle.judge.specs.declared.JudgeAnswer.{JudgeAnswer}
 use Rattle.judge.specs.declared.Finding.{Finding}
 use Rattle.judge.specs.declared.Finding.the-variants.{Refused, Judged}
 use Rattle.immunity.specs.declared.Ranks.{Ranks}
 use Rattle.judge.specs.Judge.{found, JudgeContract}
-use Rattle.judge.proofs.Passed.{degree-small}
+use Rattle.judge.proofs.Passed.{ranks-long, degree-small, side-degree-small}
 use Rattle.exports.specs.Status.{statusOf}
 use Rattle.exports.specs.Report.{reportOf}
 use Rattle.exports.specs.Exported.{JudgeStatus}
+use Rattle.exports.proofs.Flat.{degrees-at, number-most, number-none}
 use Rattle.exports.proofs.ekthavrul_judge.Statement.{statement}
 use Rattle.exports.proofs.ekthavrul_judge.Tie as tie
 
@@ -25,6 +29,13 @@ found-degree : (x : Finding) (rs : List Ranks) (w : Sides (List ℕ)) (j : Judge
 found-degree (Refused y) rs w j e = absurd (not-both e)
 found-degree (Judged y) rs w j e = (y .degree, sym (ap (λ (z : Outcome Judgement). leftBy z none (λ i. i .degree)) e))
 
+-- the sides' own degrees in a report
+none-named : (j : Judgement) → length (j .ranks) ≡ 10 → ((b : Bool) (d : ℕ) → sideIf b (j .degrees) ≡ some d → d ≤ 9)
+    → {ns : List ℕ} → ns ≡ reportOf j → ((getD ns 33 0 ≡ 10) ↔ (j .degrees .one ≡ none)) × ((getD ns 34 0 ≡ 10) ↔ (j .degrees .zero ≡ none))
+none-named j long small e =
+    let (one, zero) = degrees-at (j .ranks) (j .degree) (j .side) (j .additions) (j .degrees) long in
+    rw (e, one, zero) (number-none (j .degrees .one) (small true), number-none (j .degrees .zero) (small false))
+
 module _ {o : Outcome Judgement} {ws ws′ : List ℕ} {w w′ : Sides (List ℕ)} {answer : JudgeAnswer} (h : JudgeContract o ws ws′ w w′ answer)
     {x : Finding} (e : answer .finding ≡ x) where
   -- what the finding states is the outcome
@@ -32,33 +43,37 @@ module _ {o : Outcome Judgement} {ws ws′ : List ℕ} {w w′ : Sides (List ℕ
   states = ap (λ y. found y (answer .ranks) w′) (sym e) ∙ h .answers
 
   -- the status and the report of what the finding states
-  left-by : {ns ns′ : List ℕ} {r : ℕ} → r ≡ statusOf (found x (answer .ranks) w′) → ns′ ≡ leftBy (found x (answer .ranks) w′) ns reportOf
+  left-by : ((j : Judgement) → o ≡ accepted j → length (j .ranks) ≡ 10) → ((j : Judgement) → o ≡ accepted j → (b : Bool) (d : ℕ) → sideIf b (j .degrees) ≡ some d → d ≤ 9)
+      → {ns ns′ : List ℕ} {r : ℕ} → r ≡ statusOf (found x (answer .ranks) w′) → ns′ ≡ leftBy (found x (answer .ranks) w′) ns reportOf
       → JudgeStatus o ws ws′ w w′ ns ns′ r
-  left-by {ns} status report = record {
+  left-by long small {ns} status report = record {
     status = status ∙ ap statusOf states;
     workspace = h .leaves;
     witnesses = h .leaves-witnesses;
     report = report ∙ ap (λ y. leftBy y ns reportOf) states;
     reported = λ j a. found-degree x (answer .ranks) w′ j (states ∙ a);
+    none-named = λ j a. none-named j (long j a) (small j a) (report ∙ ap (λ y. leftBy y ns reportOf) (states ∙ a));
   }
 
 report-of-requires : tie.Need-report-of-requires
 report-of-requires c κs =
     let x = c .before .before in
     let j = x .before .before .before .before .before .before .before .before in
-    degree-small _ _ _ _ _ _ _ _ (sym (states (j .judge .ensures) (x .finding2 .given .1))) _ refl
+    let is = sym (states (j .judge .ensures) (x .finding2 .given .1)) in
+    let small = side-degree-small _ _ _ _ _ _ _ _ is in
+    (degree-small _ _ _ _ _ _ _ _ is _ refl, number-most _ (small true), number-most _ (small false))
 
 returns : tie.Need-returns
 returns c =
     let x = c .before .before in
     let j = x .before .before .before .before .before .before .before .before in
-    left-by (j .judge .ensures) (x .finding .given .1) (c .number .ensures) refl
+    left-by (j .judge .ensures) (x .finding .given .1) (ranks-long _ _ _ _ _ _ _) (side-degree-small _ _ _ _ _ _ _) (c .number .ensures) refl
 
 returns-2 : tie.Need-returns-2
 returns-2 c =
     let x = c .before .before .before in
     let j = x .before .before .before .before .before .before .before .before in
-    left-by (j .judge .ensures) (x .finding2 .given .1) refl (c .report-of .ensures)
+    left-by (j .judge .ensures) (x .finding2 .given .1) (ranks-long _ _ _ _ _ _ _) (side-degree-small _ _ _ _ _ _ _) refl (c .report-of .ensures)
 
 pub ekthavrul-judge-spec : {M : Type 1} → statement M
 ekthavrul-judge-spec =

@@ -1,0 +1,21 @@
+use borrow.Author.Needs.{needs}
+use mathlib.Core.Path.{subst}
+use Prim.Native.Nat.{_≤_}
+use native.Mathlib.Omega.{arith}
+use Rattle.immunity.specs.SideDegree.{degreeOf}
+use Rattle.exports.specs.Report.{degreeNumber}
+use Rattle.exports.proofs.report.degree_number.Statement.{statement}
+use Rattle.exports.proofs.report.degree_number.Tie as tie
+
+cast-result : tie.Need-cast-result
+cast-result c = let at = c .before in omega (arith, subst (λ x. degreeNumber (degreeOf x) ≤ 10) (at .degree .given .1) (at .before .before .pre))
+
+pub degree-number-spec : {M : Type 1} → statement M
+degree-number-spec =
+    tie.close
+    (tie.spec
+    (λ c. search needs)
+    cast-result
+    (λ c. search needs)
+    (λ c. search needs)
+    (λ c. search needs))
