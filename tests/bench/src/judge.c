@@ -1,6 +1,6 @@
 // Judge of the proved library in C, by the same steps: rows made once, an elimination with all columns for the set and
-// each part, the ranks at each degree from its pivots, the first difference, and by back substitution the witness of
-// each side that differs.
+// each part, the ranks at each degree from its pivots, each side's first difference, and by back substitution the
+// witness of each side that differs at the first of both.
 #include "elimination.h"
 #include <string.h>
 
@@ -107,18 +107,26 @@ static uint32_t all_ranks(size_t ranks[DEGREES][3], const uint8_t *masks[3], siz
     return additions;
 }
 
-// Judge of a filter of n taps; the workspace is zero at exit.
+// The first degree at which the rank of the mask i is not that of the set, or DEGREES if there is none.
+static size_t first_difference(size_t ranks[DEGREES][3], int i) {
+    size_t d = 0;
+    while (d < DEGREES && ranks[d][i] == ranks[d][0])
+        d++;
+    return d;
+}
+
+// Judge of a filter of n taps; the workspace is zero at exit. A side that has no degree of its own gets DEGREES.
 void c_judge(const uint8_t *set, const uint8_t *table, size_t n, uint64_t *workspace, uint8_t *one, uint8_t *zero,
-             size_t ranks[DEGREES][3], size_t *degree, uint8_t *side, uint32_t *additions) {
+             size_t ranks[DEGREES][3], size_t *degree, uint8_t *side, uint32_t *additions, size_t own_degrees[2]) {
     uint8_t part_one[POINTS], part_zero[POINTS];
     const uint8_t *masks[3] = {set, part_one, part_zero};
-    size_t k = 0;
     part_mask(part_one, set, table, 1);
     part_mask(part_zero, set, table, 0);
     prepare(n, workspace);
     *additions = all_ranks(ranks, masks, n, workspace);
-    while (ranks[k][0] == ranks[k][1] && ranks[k][0] == ranks[k][2])
-        k++;
+    own_degrees[0] = first_difference(ranks, 1);
+    own_degrees[1] = first_difference(ranks, 2);
+    size_t k = own_degrees[0] < own_degrees[1] ? own_degrees[0] : own_degrees[1];
     memset(one, 0, POINTS);
     memset(zero, 0, POINTS);
     if (ranks[k][1] != ranks[k][0])

@@ -1,6 +1,6 @@
 // Judge of the proved library in Rust, by the same steps: rows made once, an elimination with all columns for the set and
-// each part, the ranks at each degree from its pivots, the first difference, and by back substitution the witness of
-// each side that differs.
+// each part, the ranks at each degree from its pivots, each side's first difference, and by back substitution the
+// witness of each side that differs at the first of both.
 use crate::elimination::{
     Basis, Row, column_count, eliminate, eliminate_tallied, exponents, first_columns, has, prepare, rows_of,
 };
@@ -55,7 +55,8 @@ pub fn judge(filter: Filter, workspace: &mut [u64], one: &mut [u8], zero: &mut [
     let (part_one, part_zero) = (part_mask(filter, 1), part_mask(filter, 0));
     let (kept, rows) = prepare(n, workspace);
     let (ranks, additions) = all_ranks([set, &part_one, &part_zero], n, kept, rows);
-    let degree = ranks.iter().position(|[all, one, zero]| all != one || all != zero).expect("at n a part differs");
+    let own_degrees = [1, 2].map(|i| ranks.iter().position(|line| line[i] != line[0]));
+    let degree = own_degrees.into_iter().flatten().min().expect("at n a part differs");
     for (witness, part, rank) in [(one, &part_one, 1), (zero, &part_zero, 2)] {
         witness.fill(0);
         if ranks[degree][rank] != ranks[degree][0] {
@@ -64,5 +65,5 @@ pub fn judge(filter: Filter, workspace: &mut [u64], one: &mut [u8], zero: &mut [
     }
     workspace.fill(0);
     let side = u8::from(ranks[degree][1] != ranks[degree][0]);
-    Judgement { ranks, degree, side, additions }
+    Judgement { ranks, degree, side, additions, own_degrees }
 }

@@ -1,16 +1,19 @@
 // Judge, Certify and Hand over: docs/SPECIFICATION.md, 'Judge' to 'Hand over'.
+use crate::annihilator::lowest_degree;
 use crate::filter::Filter;
 use crate::rank::{column_vectors, points_of, ranking, row, row_span};
 use crate::refusal::{CERTIFICATE, POINTS, Refusal, WORKSPACE, lengths, require, taps};
 use crate::span::{Bits, Span};
 
-// What Judge answers: for each d the ranks of S, part 1 and part 0; the degree, the side and the additions.
+// What Judge answers: for each d the ranks of S, part 1 and part 0; the degree, the side and the additions; side 1's
+// own degree and side 0's, where there is one.
 #[derive(Clone, Debug, PartialEq, Eq)]
 pub struct Judgement {
     pub ranks: [[usize; 3]; 10],
     pub degree: usize,
     pub side: u8,
     pub additions: u32,
+    pub own_degrees: [Option<usize>; 2],
 }
 
 impl Filter<'_> {
@@ -57,7 +60,8 @@ pub fn judge(filter: Filter, workspace: &mut [u64], one: &mut [u8], zero: &mut [
     write_choice(one, found(1));
     write_choice(zero, found(2));
     let side = differs(degree, 1).into();
-    Ok(Judgement { ranks, degree, side, additions })
+    let own_degrees = [1, 2].map(|i| lowest_degree(n, &lists[0], &lists[i]));
+    Ok(Judgement { ranks, degree, side, additions, own_degrees })
 }
 
 // Certify.

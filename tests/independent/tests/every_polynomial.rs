@@ -130,7 +130,7 @@ fn check_ranks(judgement: &Judgement, by_degree: &[Vec<Ranking>], sets: [usize; 
     assert_eq!(judgement.additions, additions, "sets {sets:?}");
 }
 
-// Demand 3 about ranks, degree, side and witnesses for one set and table.
+// Demand 3 about ranks, degree, side and witnesses for one set and table, and the sides' own degrees.
 fn check_judgement(all: &[Polynomial], by_degree: &[Vec<Ranking>], n: usize, set: usize, table: usize) {
     let (judgement, witnesses) = judged(n, set, table);
     let parts = [set & table, set & !table];
@@ -142,6 +142,7 @@ fn check_judgement(all: &[Polynomial], by_degree: &[Vec<Ranking>], n: usize, set
     }
     let k = least.into_iter().flatten().min().expect("a polynomial cancels");
     assert_eq!((judgement.degree, judgement.side == 1), (k, least[0] == Some(k)));
+    assert_eq!(judgement.own_degrees, least, "n {n} set {set:b} table {table:b}");
     for i in [0, 1] {
         assert_eq!(witnesses[i], witness(all, n, set, parts[i], k));
         let own = cancelling(all, set, parts[i]).find(|g| g.choice == witnesses[i]);

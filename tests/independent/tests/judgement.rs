@@ -27,6 +27,7 @@ fn starred_case_5() {
     let (judgement, witnesses) = judged(2, &mask_of(2, |_| true), &listed(2, &[3]));
     assert_eq!(judgement.ranks[..4], [[1, 1, 1], [3, 1, 3], [4, 1, 3], [0, 0, 0]]);
     assert_eq!((judgement.degree, judgement.side, judgement.additions), (1, 1, 19));
+    assert_eq!(judgement.own_degrees, [Some(1), Some(2)]);
     assert_eq!(witnesses, [vec![0, 1], vec![]]);
 }
 
@@ -41,9 +42,11 @@ fn starred_cases_6_and_7() {
 #[test]
 fn starred_cases_8_and_9() {
     let (zero, witnesses) = judged(1, &listed(1, &[0]), &listed(1, &[]));
-    assert_eq!((zero.degree, zero.side, witnesses), (0, 1, [vec![0], vec![]]));
+    assert_eq!((zero.degree, zero.side, zero.own_degrees), (0, 1, [Some(0), None]));
+    assert_eq!(witnesses, [vec![0], vec![]]);
     let (one, witnesses) = judged(1, &listed(1, &[0]), &listed(1, &[0]));
-    assert_eq!((one.degree, one.side, witnesses), (0, 0, [vec![], vec![0]]));
+    assert_eq!((one.degree, one.side, one.own_degrees), (0, 0, [None, Some(0)]));
+    assert_eq!(witnesses, [vec![], vec![0]]);
 }
 
 #[test]

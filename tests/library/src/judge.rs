@@ -19,18 +19,33 @@ unsafe extern "C" {
 }
 
 // The length of the report, and where its numbers stand, as include/ekthavrul.h says.
-const REPORT: usize = 33;
+const REPORT: usize = 35;
 const RANKS_AT: [usize; 3] = [0, 1, 2];
 const RANKS_OF_DEGREE: usize = 3;
 const DEGREE_AT: usize = 30;
 const SIDE_AT: usize = 31;
 const ADDITIONS_AT: usize = 32;
+const OWN_DEGREES_AT: [usize; 2] = [33, 34];
 
-// What a report says: each of its numbers is read.
-fn judgement(report: [u32; REPORT]) -> Judgement {
-    let ranks = std::array::from_fn(|d| RANKS_AT.map(|i| report[RANKS_OF_DEGREE * d + i] as usize));
-    let side = report[SIDE_AT].try_into().expect("a side");
-    Judgement { ranks, degree: report[DEGREE_AT] as usize, side, additions: report[ADDITIONS_AT] }
+// The number for a side that has no degree of its own.
+const NO_DEGREE: u32 = 10;
+
+// A side's own degree, which is at most n, or none.
+fn own_degree(number: u32, n: usize) -> Option<usize> {
+    let degree = (number != NO_DEGREE).then_some(number as usize);
+    assert!(degree.is_none_or(|d| d <= n), "{number} is no degree of {n} taps");
+    degree
+}
+
+// What a report of n taps says: each of its numbers is read.
+fn judgement(report: [u32; REPORT], n: usize) -> Judgement {
+    Judgement {
+        ranks: std::array::from_fn(|d| RANKS_AT.map(|i| report[RANKS_OF_DEGREE * d + i] as usize)),
+        degree: report[DEGREE_AT] as usize,
+        side: report[SIDE_AT].try_into().expect("a side"),
+        additions: report[ADDITIONS_AT],
+        own_degrees: OWN_DEGREES_AT.map(|i| own_degree(report[i], n)),
+    }
 }
 
 // Judge, lent a report of numbers that it does not answer.
@@ -53,5 +68,5 @@ pub fn judge(filter: Filter, workspace: &mut [u64], one: &mut [u8], zero: &mut [
             &mut report,
         )
     };
-    crate::outcome(status, unwritten, report).map(judgement)
+    crate::outcome(status, unwritten, report).map(|report| judgement(report, filter.n))
 }
