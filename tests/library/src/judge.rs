@@ -48,10 +48,10 @@ fn judgement(report: [u32; REPORT], n: usize) -> Judgement {
     }
 }
 
-// Judge, lent a report of numbers that it does not answer.
+// Judge, lent a report of numbers that it does not answer, between two others that stay as they are.
 pub fn judge(filter: Filter, workspace: &mut [u64], one: &mut [u8], zero: &mut [u8]) -> Result<Judgement, u8> {
-    let unwritten = std::array::from_fn(|i| 0xdead_beef - i as u32);
-    let mut report = unwritten;
+    let unwritten: [u32; REPORT] = std::array::from_fn(|i| 0xdead_beef - i as u32);
+    let mut reports = [unwritten; 3];
     let status = unsafe {
         ekthavrul_judge(
             filter.set.as_ptr(),
@@ -65,8 +65,10 @@ pub fn judge(filter: Filter, workspace: &mut [u64], one: &mut [u8], zero: &mut [
             one.len(),
             zero.as_mut_ptr(),
             zero.len(),
-            &mut report,
+            reports.as_mut_ptr().add(1),
         )
     };
+    let [before, report, behind] = reports;
+    assert_eq!([before, behind], [unwritten; 2], "Judge wrote beside the report");
     crate::outcome(status, unwritten, report).map(|report| judgement(report, filter.n))
 }

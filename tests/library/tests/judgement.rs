@@ -123,6 +123,15 @@ fn starred_case_7() {
     assert_eq!((judgement.ranks[1], judgement.degree), ([4, 4, 4], 2));
 }
 
+#[test]
+fn filters_of_every_n_whose_own_degrees_are_known() {
+    let mut random = Random(15);
+    for known in (1..=9).flat_map(|n| random.known(n)).collect::<Vec<_>>() {
+        let judgement = lend_judge(&mut random, known.filter(), [8192, 512, 512]).expect("accepted");
+        assert_eq!(judgement.own_degrees, known.own_degrees, "Judge of {:?}", known.filter());
+    }
+}
+
 // What Judge or Certify is asked and lent besides a filter; of the buffers only the lengths.
 struct Own {
     side: u8,
