@@ -140,6 +140,7 @@ cases =
           ∷ "1 3 1 3"
           ∷ "2 4 1 3"
           ∷ "degree 1 side 1 witness 0 1"
+          ∷ "sides 1 2"
           ∷ "side 1 point 0 sum 3"
           ∷ "side 1 point 1 sum 3"
           ∷ "side 1 point 2 sum 3"
@@ -164,9 +165,33 @@ cases =
       facts = ranks 1 4 4 4 ∷ degree 2 ∷ [];
     }
     -- case 8
-    ∷ record { taps = 1; set = 0 ∷ []; table = []; facts = degree 0 ∷ side 1 ∷ witness (0 ∷ []) ∷ [] }
+    ∷ record {
+      taps = 1;
+      set = 0 ∷ [];
+      table = [];
+      facts =
+          degree 0
+          ∷ side 1
+          ∷ witness (0 ∷ [])
+          ∷ printed
+          (1 ∷ 1 ∷ 0 ∷ 0 ∷ [])
+          ("n 1 points 1 mark 1" ∷ "0 1 0 1" ∷ "1 1 0 1" ∷ "degree 0 side 1 witness 0" ∷ "sides 0 none" ∷ "additions 0" ∷ [])
+          ∷ [];
+    }
     -- case 9
-    ∷ record { taps = 1; set = 0 ∷ []; table = 0 ∷ []; facts = degree 0 ∷ side 0 ∷ witness (0 ∷ []) ∷ [] }
+    ∷ record {
+      taps = 1;
+      set = 0 ∷ [];
+      table = 0 ∷ [];
+      facts =
+          degree 0
+          ∷ side 0
+          ∷ witness (0 ∷ [])
+          ∷ printed
+          (1 ∷ 1 ∷ 0 ∷ 1 ∷ 0 ∷ [])
+          ("n 1 points 1 mark 1" ∷ "0 1 1 0" ∷ "1 1 1 0" ∷ "degree 0 side 0 witness 0" ∷ "sides none 0" ∷ "additions 0" ∷ [])
+          ∷ [];
+    }
     -- case 10
     ∷ record { taps = 2; set = 1 ∷ 2 ∷ []; table = 1 ∷ []; facts = setRanks (1 ∷ 2 ∷ 2 ∷ []) ∷ degree 1 ∷ witness (0 ∷ 1 ∷ []) ∷ [] }
     ∷ []

@@ -5,15 +5,19 @@
 --   rankLine d r            a degree, and the ranks of S, part 1 and part 0
 --   rankLines n rs          the rank lines, for each degree up to n
 --   degreeLine k side w     the reported degree, the side, and that side's witness, its exponents in graded order
+--   degreeField k           a degree, or `none`, after a space
+--   sidesLine ks            each side's own degree, side 1's then side 0's
 --   sumLine side a qs       a side, a point, and points whose rows sum to its row
 --   sumLines side c ps      the sums that a certificate states for points, rising within a sum
 --   additionsLine m         Judge's additions
 use mathlib.Core.List.{List, _++_}
+use mathlib.Core.Option.{Option, none, some}
 use Prim.Native.Nat.{ℕ, _+_, _/_}
 use lib.ListN.{getD}
 use Rattle.cube.specs.NumberLists.{below, select}
 use Rattle.cube.specs.Mask.{member}
 use Rattle.order.specs.BuiltIn.{graded}
+use Rattle.filter.specs.Sides.{Sides}
 use Rattle.immunity.specs.declared.Ranks.{Ranks}
 use Rattle.immunity.specs.Ranks.{noRanks}
 use Rattle.immunity.specs.Certificate.{bitOf}
@@ -43,6 +47,15 @@ rankLines n rs = joined (λ d. rankLine d (getD rs d noRanks)) (below (n + 1))
 abbrev pub degreeLine : ℕ → ℕ → List ℕ → Text
 degreeLine k side w =
     labelled "degree" k ++ labelled " side" side ++ ascii " witness" ++ fields (select (member w) graded) ++ newline
+
+-- a degree, or `none`, after a space
+abbrev pub degreeField : Option ℕ → Text
+degreeField none = ascii " none"
+degreeField (some k) = field k
+
+-- side 1's own degree, then side 0's
+abbrev pub sidesLine : Sides (Option ℕ) → Text
+sidesLine ks = ascii "sides" ++ degreeField (ks .one) ++ degreeField (ks .zero) ++ newline
 
 -- the points whose rows sum to the row of a
 abbrev pub sumLine : ℕ → ℕ → List ℕ → Text

@@ -5,6 +5,7 @@
 --   rankLineRoom        a rank line
 --   rankLinesRoom       the rank lines, of at most ten degrees
 --   degreeLineRoom      the degree line with its witness
+--   sidesLineRoom       the line of the sides' degrees
 --   sumLineRoom         a sum line
 --   sideSumsRoom        the sum lines of a side, one for each point
 --   sumsRoom            those of both sides
@@ -37,6 +38,10 @@ rankLinesRoom = 10 * rankLineRoom
 abbrev pub degreeLineRoom : ℕ
 degreeLineRoom = labelledRoom 6 + labelledRoom 5 + 8 + chosenRoom + newlineRoom
 
+-- the word `sides` and two degrees; ` none` takes less than a field
+abbrev pub sidesLineRoom : ℕ
+sidesLineRoom = 5 + 2 * fieldRoom + newlineRoom
+
 -- the words `side` and ` point`, each with its number, the word ` sum` and its points
 abbrev pub sumLineRoom : ℕ
 sumLineRoom = labelledRoom 4 + labelledRoom 6 + 4 + chosenRoom + newlineRoom
@@ -59,5 +64,6 @@ textRoom =
     firstLineRoom
     + rankLinesRoom
     + degreeLineRoom
+    + sidesLineRoom
     + sumsRoom
     + additionsLineRoom

@@ -7,15 +7,18 @@ ghost use Rattle.cube.specs.Mask.{member, points};
 ghost use Rattle.order.specs.BuiltIn.{graded};
 ghost use Rattle.filter.specs.Part.{part};
 ghost use Rattle.filter.specs.Outside.{outside};
+ghost use Rattle.immunity.specs.SideDegree.{degreeOf, degreesOf};
 ghost use Rattle.immunity.specs.Certificate.{bitOf};
 ghost use Rattle.buffer.specs.Appends.{Appends};
 ghost use Rattle.text.specs.Room.{fieldRoom};
 ghost use Rattle.text.specs.Text.{fields};
-ghost use Rattle.sheet_lines.specs.Room.{chosenRoom, refusedLineRoom, firstLineRoom, rankLineRoom, rankLinesRoom, degreeLineRoom, sumLineRoom, sideSumsRoom, additionsLineRoom};
-ghost use Rattle.sheet_lines.specs.Lines.{refusedLine, firstLine, rankLine, rankLines, degreeLine, sumLine, sumLines, additionsLine};
+ghost use Rattle.sheet_lines.specs.Room.{chosenRoom, refusedLineRoom, firstLineRoom, rankLineRoom, rankLinesRoom, degreeLineRoom, sidesLineRoom, sumLineRoom, sideSumsRoom, additionsLineRoom};
+ghost use Rattle.sheet_lines.specs.Lines.{refusedLine, firstLine, rankLine, rankLines, degreeLine, degreeField, sidesLine, sumLine, sumLines, additionsLine};
+use buffer::append;
 use cube::POINTS;
 use cube::Point;
 use immunity::Ranks;
+use immunity::SideDegree;
 use order::exponent_at;
 use order::graded_order;
 use packed::ROW_WORDS;
@@ -105,6 +108,28 @@ pub fn degree_line(text: &mut [u8], at: usize, k: usize, side: u8, witness: &[u8
         b" witness",
     );
     let end = witness_fields(text, chosen, witness);
+    end_line(text, end)
+}
+
+// A degree, or `none`, after a space.
+fn degree_field(text: &mut [u8], at: usize, degree: SideDegree) -> usize
+    requires { ⌜ at + fieldRoom ≤ length (now text) ⌝ }
+    ensures { λ r. ⌜ Appends (degreeField (degreeOf degree)) (now (text .entry)) (now (text .exit)) at r × (r ≤ at + fieldRoom) ⌝ }
+{
+    match degree {
+        SideDegree::At(d) => append_field(text, at, d as u64),
+        SideDegree::None => append(text, at, b" none"),
+    }
+}
+
+// Each side's own degree: side 1's, then side 0's.
+pub fn sides_line(text: &mut [u8], at: usize, one: SideDegree, zero: SideDegree) -> usize
+    requires { ⌜ at + sidesLineRoom ≤ length (now text) ⌝ }
+    ensures { λ r. ⌜ Appends (sidesLine (degreesOf one zero)) (now (text .entry)) (now (text .exit)) at r × (r ≤ at + sidesLineRoom) ⌝ }
+{
+    let of_one = append(text, at, b"sides");
+    let of_zero = degree_field(text, of_one, one);
+    let end = degree_field(text, of_zero, zero);
     end_line(text, end)
 }
 

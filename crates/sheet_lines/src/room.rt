@@ -23,6 +23,9 @@ pub const RANK_LINES: usize = 10 * RANK_LINE;
 // The words `degree` and ` side`, each with its number, the word ` witness` and its exponents.
 pub const DEGREE_LINE: usize = 6 + FIELD + 5 + FIELD + 8 + CHOSEN + NEWLINE;
 
+// The word `sides` and two degrees; ` none` takes less than a field.
+pub const SIDES_LINE: usize = 5 + 2 * FIELD + NEWLINE;
+
 // The words `side` and ` point`, each with its number, the word ` sum` and its points.
 pub const SUM_LINE: usize = 4 + FIELD + 6 + FIELD + 4 + CHOSEN + NEWLINE;
 
@@ -36,4 +39,4 @@ pub const SUMS: usize = 2 * SIDE_SUMS;
 pub const ADDITIONS_LINE: usize = 9 + FIELD + NEWLINE;
 
 // The whole text: the lines in their order.
-pub const TEXT: usize = FIRST_LINE + RANK_LINES + DEGREE_LINE + SUMS + ADDITIONS_LINE;
+pub const TEXT: usize = FIRST_LINE + RANK_LINES + DEGREE_LINE + SIDES_LINE + SUMS + ADDITIONS_LINE;

@@ -1,7 +1,7 @@
 -- The printed sheet: docs/SPECIFICATION.md, 'Sheet'.
 --   sideSums n s f d side   the sums of the certificate of a side at degree d, points rising
 --   sums n s f k            those of degree k - 1, side 1 then 0; none if k is 0
---   reportLines n s f j k   the degree line and the sums for the reported degree
+--   reportLines n s f j k   the degree line, the line of both sides and the sums for the reported degree
 --   judgementSheet n s f j  the sheet of a judgement
 --   filterSheet n s f       the sheet of a filter
 --   sheetOf o               the sheet for what Read answers
@@ -24,7 +24,7 @@ use Rattle.filter.specs.Outside.{outside}
 use Rattle.immunity.specs.Judgement.{Judgement, judged}
 use Rattle.immunity.specs.Certificate.{certificate}
 use Rattle.text.specs.Text.{Text}
-use Rattle.sheet_lines.specs.Lines.{refusedLine, firstLine, rankLines, degreeLine, sumLines, additionsLine}
+use Rattle.sheet_lines.specs.Lines.{refusedLine, firstLine, rankLines, degreeLine, sidesLine, sumLines, additionsLine}
 
 -- the sums of a side at degree d
 abbrev pub sideSums : ℕ → List ℕ → List ℕ → ℕ → ℕ → Text
@@ -35,10 +35,10 @@ abbrev pub sums : ℕ → List ℕ → List ℕ → ℕ → Text
 sums n s f zero = []
 sums n s f (suc d) = sideSums n s f d 1 ++ sideSums n s f d 0
 
--- the degree line and the sums for the reported degree
+-- the degree line, each side's own degree, and the sums for the reported degree
 abbrev pub reportLines : ℕ → List ℕ → List ℕ → Judgement → Option ℕ → Text
 reportLines n s f j none = []
-reportLines n s f j (some k) = degreeLine k (j .side) (ofSide (j .side) (j .witnesses)) ++ sums n s f k
+reportLines n s f j (some k) = degreeLine k (j .side) (ofSide (j .side) (j .witnesses)) ++ sidesLine (j .degrees) ++ sums n s f k
 
 -- the sheet of a judgement
 unfoldable pub judgementSheet : ℕ → List ℕ → List ℕ → Judgement → Text

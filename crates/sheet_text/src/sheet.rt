@@ -29,6 +29,7 @@ use sheet_lines::lines::degree_line;
 use sheet_lines::lines::first_line;
 use sheet_lines::lines::rank_lines;
 use sheet_lines::lines::refused_line;
+use sheet_lines::lines::sides_line;
 use sheet_lines::lines::sum_lines;
 use sheet_lines::room::TEXT;
 
@@ -62,7 +63,10 @@ fn filter_sheet(text: &mut [u8], n: usize, set: &[u8], table: &[u8]) -> usize
         Finding::Judged(found) => {
             let first = first_line(text, 0, n, count(set));
             let report = rank_lines(text, first, n, ranks);
-            let of_sums = report_line(text, report, found.degree, found.side, &one, &zero);
+            let sides = report_line(text, report, found.degree, found.side, &one, &zero);
+            let of_one = found.one;
+            let of_zero = found.zero;
+            let of_sums = sides_line(text, sides, of_one, of_zero);
             let end = sum_sections(text, of_sums, n, set, table, found.degree);
             additions_line(text, end, found.additions)
         }

@@ -34,6 +34,12 @@ fn degree_line(n: usize, judgement: &Judgement, witness: &[u8]) -> String {
     format!("degree {} side {} witness{}\n", judgement.degree, judgement.side, spaced(chosen))
 }
 
+// The line with side 1's own degree and side 0's.
+fn sides_line(judgement: &Judgement) -> String {
+    let [one, zero] = judgement.own_degrees.map(|degree| degree.map_or("none".to_string(), |d| d.to_string()));
+    format!("sides {one} {zero}\n")
+}
+
 // The sheet of a file that is read.
 fn accepted(file: &[u8]) -> Result<String, u8> {
     let (mut set, mut table) = (vec![0; POINTS], vec![0; POINTS]);
@@ -46,6 +52,7 @@ fn accepted(file: &[u8]) -> Result<String, u8> {
         let _ = writeln!(sheet, "{d} {all} {part_one} {part_zero}");
     }
     sheet += &degree_line(n, &judgement, if judgement.side == 1 { &one } else { &zero });
+    sheet += &sides_line(&judgement);
     if let Some(d) = judgement.degree.checked_sub(1) {
         sheet += &sum_lines(filter, 1, d)?;
         sheet += &sum_lines(filter, 0, d)?;

@@ -10,6 +10,7 @@ fn the_printed_sheet() {
         "1 3 1 3",
         "2 4 1 3",
         "degree 1 side 1 witness 0 1",
+        "sides 1 2",
         "side 1 point 0 sum 3",
         "side 1 point 1 sum 3",
         "side 1 point 2 sum 3",
@@ -27,8 +28,12 @@ fn a_refusal_is_one_line() {
 }
 
 #[test]
-fn a_degree_of_zero_has_no_sums() {
-    assert_eq!(sheet(&[1, 1, 0, 0]), "n 1 points 1 mark 1\n0 1 0 1\n1 1 0 1\ndegree 0 side 1 witness 0\nadditions 0\n");
+fn a_degree_of_zero_has_no_sums_and_leaves_one_side_without() {
+    let sheets = [[1, 1, 0, 0].as_slice(), &[1, 1, 0, 1, 0]].map(sheet);
+    let first = "n 1 points 1 mark 1\n";
+    let zero = "0 1 0 1\n1 1 0 1\ndegree 0 side 1 witness 0\nsides 0 none\nadditions 0\n";
+    let one = "0 1 1 0\n1 1 1 0\ndegree 0 side 0 witness 0\nsides none 0\nadditions 0\n";
+    assert_eq!(sheets, [zero, one].map(|lines| format!("{first}{lines}")));
 }
 
 #[test]

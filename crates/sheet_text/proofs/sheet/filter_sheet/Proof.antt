@@ -58,14 +58,23 @@ report-line-requires c κs =
     let s = j .before .before .before .before .before .before .before in
     (omega (arith, r .rank-lines .ensures .1, r .rank-lines .kept .0, f .first-line .ensures .1, f .first-line .kept .0, s .pre .0), j .judge .kept .1 .1 .1 .1 .0 ∙ length-replicate {A = ℕ} 512 0, j .judge .kept .1 .1 .1 .1 .1 .0 ∙ length-replicate {A = ℕ} 512 0)
 
+sides-line-requires : tie.Need-sides-line-requires
+sides-line-requires c κs =
+    let d = c .before .before .before in
+    let r = d .before .before .before .before .before .before in
+    let f = r .before .before .before .before in
+    let s = f .before .before .before .before .before .before .before .before .before .before .before .before .before .before .before .before .before in
+    omega (arith, d .report-line .ensures .1, d .report-line .kept .0, r .rank-lines .ensures .1, r .rank-lines .kept .0, f .first-line .ensures .1, f .first-line .kept .0, s .pre .0)
+
 sum-sections-requires : tie.Need-sum-sections-requires
 sum-sections-requires c κs =
-    let d = c .before .before .before in
+    let i = c .before .before .before in
+    let d = i .before .before .before .before in
     let r = d .before .before .before .before .before .before in
     let f = r .before .before .before .before in
     let g = f .before .before .before .before in
     let s = g .before .before .before .before .before .before .before .before .before .before .before .before .before in (
-      omega (arith, d .report-line .ensures .1, d .report-line .kept .0, r .rank-lines .ensures .1, r .rank-lines .kept .0, f .first-line .ensures .1, f .first-line .kept .0, s .pre .0),
+      omega (arith, i .sides-line .ensures .1, i .sides-line .kept .0, d .report-line .ensures .1, d .report-line .kept .0, r .rank-lines .ensures .1, r .rank-lines .kept .0, f .first-line .ensures .1, f .first-line .kept .0, s .pre .0),
       filter s .set-long,
       filter s .table-long,
       sums-accepted (s .args .n) (s .args .set .now) (s .args .table .now) (s .pre .1) _ (sym (ap (λ (j : Judgement). j .degree) (judgement g))),
@@ -74,11 +83,12 @@ sum-sections-requires c κs =
 additions-line-requires : tie.Need-additions-line-requires
 additions-line-requires c κs =
     let u = c .before .before .before in
-    let d = u .before .before .before .before in
+    let i = u .before .before .before .before in
+    let d = i .before .before .before .before in
     let r = d .before .before .before .before .before .before in
     let f = r .before .before .before .before in
     let s = f .before .before .before .before .before .before .before .before .before .before .before .before .before .before .before .before .before in
-    omega (arith, u .sum-sections .ensures .1, u .sum-sections .kept .0, d .report-line .ensures .1, d .report-line .kept .0, r .rank-lines .ensures .1, r .rank-lines .kept .0, f .first-line .ensures .1, f .first-line .kept .0, s .pre .0)
+    omega (arith, u .sum-sections .ensures .1, u .sum-sections .kept .0, i .sides-line .ensures .1, i .sides-line .kept .0, d .report-line .ensures .1, d .report-line .kept .0, r .rank-lines .ensures .1, r .rank-lines .kept .0, f .first-line .ensures .1, f .first-line .kept .0, s .pre .0)
 
 returns : tie.Need-returns
 returns c =
@@ -93,7 +103,8 @@ unfolding judgementSheet
 returns-2 c =
     let z = c .before .before in
     let u = z .before .before .before .before in
-    let d = u .before .before .before .before in
+    let i = u .before .before .before .before in
+    let d = i .before .before .before .before in
     let r = d .before .before .before .before .before .before in
     let f = r .before .before .before .before in
     let g = f .before .before .before .before in
@@ -102,7 +113,7 @@ returns-2 c =
     appends-same (ap (firstLine (s .args .n)) (f .before .count .ensures .0)) (f .first-line .ensures .0) in
     let inside : r .rank-lines .result ≤ length (r .rank-lines .last .0) =
     omega (arith, r .rank-lines .ensures .1, r .rank-lines .kept .0, f .first-line .ensures .1, f .first-line .kept .0, s .pre .0) in
-    let report = appends-then inside (d .report-line .ensures .0) (u .sum-sections .ensures .0) in
+    let report = appends-then inside (appends-then inside (d .report-line .ensures .0) (i .sides-line .ensures .0)) (u .sum-sections .ensures .0) in
     appends-same (ap (judgementSheet (s .args .n) (s .args .set .now) (s .args .table .now)) (judgement g))
     (appends-then zero-le (appends-then zero-le (appends-then zero-le first (r .rank-lines .ensures .0)) report) (z .additions-line .ensures .0))
 
@@ -124,6 +135,7 @@ filter-sheet-spec =
     (λ c. search needs)
     (λ c. search needs)
     report-line-requires
+    sides-line-requires
     sum-sections-requires
     additions-line-requires
     (λ c. search needs)
