@@ -1,4 +1,4 @@
-/* Reads a filter file, judges it, and prints the degree and the side: judge FILE */
+/* Reads a filter file, judges it, and prints the degree, the side and each side's own degree: judge FILE */
 #include <ekthavrul.h>
 #include <inttypes.h>
 #include <stdio.h>
@@ -11,7 +11,15 @@ static int refused(uint8_t status) {
     return 0;
 }
 
-/* Prints the degree and the side of the filter. */
+/* Prints a side's own degree after a space, or `none`. */
+static void print_degree(uint32_t degree) {
+    if (degree == EKTHAVRUL_NO_DEGREE)
+        printf(" none");
+    else
+        printf(" %" PRIu32, degree);
+}
+
+/* Prints the degree and the side of the filter, and on a line below side 1's own degree and side 0's. */
 static int judge(const uint8_t *set, const uint8_t *table, size_t n) {
     static uint64_t workspace[EKTHAVRUL_WORKSPACE];
     uint8_t one[EKTHAVRUL_POINTS], zero[EKTHAVRUL_POINTS];
@@ -20,7 +28,10 @@ static int judge(const uint8_t *set, const uint8_t *table, size_t n) {
                                      one, sizeof one, zero, sizeof zero, report);
     if (status != EKTHAVRUL_ACCEPTED)
         return refused(status);
-    printf("degree %" PRIu32 " side %" PRIu32 "\n", report[EKTHAVRUL_DEGREE_AT], report[EKTHAVRUL_SIDE_AT]);
+    printf("degree %" PRIu32 " side %" PRIu32 "\nsides", report[EKTHAVRUL_DEGREE_AT], report[EKTHAVRUL_SIDE_AT]);
+    print_degree(report[EKTHAVRUL_DEGREE_ONE_AT]);
+    print_degree(report[EKTHAVRUL_DEGREE_ZERO_AT]);
+    printf("\n");
     return 0;
 }
 

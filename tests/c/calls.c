@@ -91,7 +91,8 @@ static uint8_t judge(size_t n, uint32_t *report) {
 /* The report of case 5, lent with a number behind it, which stays; a refusal leaves all of it as it was. */
 static void check_report(void) {
     const uint32_t wanted[EKTHAVRUL_REPORT] = {
-        1, 1, 1, 3, 1, 3, 4, 1, 3, [EKTHAVRUL_DEGREE_AT] = 1, [EKTHAVRUL_SIDE_AT] = 1, [EKTHAVRUL_ADDITIONS_AT] = 19};
+        1, 1, 1, 3, 1, 3, 4, 1, 3, [EKTHAVRUL_DEGREE_AT] = 1, [EKTHAVRUL_SIDE_AT] = 1, [EKTHAVRUL_ADDITIONS_AT] = 19,
+        [EKTHAVRUL_DEGREE_ONE_AT] = 1, [EKTHAVRUL_DEGREE_ZERO_AT] = 2};
     uint32_t report[EKTHAVRUL_REPORT + 1], entry[EKTHAVRUL_REPORT + 1];
     const uint32_t *last = report + 2 * EKTHAVRUL_RANKS_OF_DEGREE;
     memset(report, 77, sizeof report);
@@ -127,6 +128,16 @@ static void check_certify(void) {
     expect(certify(1, 1) == EKTHAVRUL_RANKS_DIFFER, "Certify refuses where the ranks differ");
 }
 
+/* Judge of the point 0 of one tap, with f one at the listed points: side 1's own degree and side 0's. */
+static void check_own_degrees(const int *points, uint32_t of_one, uint32_t of_zero, const char *what) {
+    uint32_t report[EKTHAVRUL_REPORT];
+    mark(set, (int[]){0, -1});
+    mark(table, points);
+    expect(judge(1, report) == 0 && report[EKTHAVRUL_DEGREE_ONE_AT] == of_one &&
+               report[EKTHAVRUL_DEGREE_ZERO_AT] == of_zero,
+           what);
+}
+
 /* Makes every check; the status is 0 if there was no fault. */
 int main(void) {
     check_read();
@@ -136,5 +147,7 @@ int main(void) {
     check_report();
     check_hand_over();
     check_certify();
+    check_own_degrees((int[]){-1}, 0, EKTHAVRUL_NO_DEGREE, "Judge, case 8");
+    check_own_degrees((int[]){0, -1}, EKTHAVRUL_NO_DEGREE, 0, "Judge, case 9");
     return faults != 0;
 }
