@@ -1,4 +1,4 @@
--- The demands, the sentences and the promise of Write beside them hold, and so do the starred cases.
+-- The demands, the sentences and the promises of the requests beside them hold, and so do the starred cases.
 pub mod Cases
 pub mod Demand1
 pub mod Demand2
@@ -11,4 +11,5 @@ pub mod CertifyWords
 pub mod HandOverWords
 pub mod SheetWords
 pub mod JudgementWords
+pub mod Sides
 pub mod Write

@@ -1,5 +1,6 @@
--- The demands on the whole, the sentences on ranks and judgements and the promise of Write beside them, and the starred cases.
+-- The demands on the whole, the sentences on ranks and judgements and the promises of the requests beside them, and the starred cases.
 pub mod Cases
 pub mod Demands
 pub mod JudgementWords
+pub mod Sides
 pub mod Write
