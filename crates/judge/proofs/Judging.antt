@@ -11,7 +11,7 @@ use mathlib.Core.Path.{_≡_, sym, ap, ap₂, _∙_, subst}
 use mathlib.Core.Bool.{Bool, false}
 use mathlib.Core.List.{List, map, List·Memᴰ}
 use mathlib.Core.Option.{Option, none, some}
-use Prim.Native.Nat.{ℕ, zero, suc, _+_, _≤_}
+use Prim.Native.Nat.{ℕ, _+_, _≤_}
 use native.Mathlib.Omega.{arith}
 use borrow.Author.Tests.{le-leb}
 use lib.ListN.{length, getD, replicate}
@@ -34,6 +34,8 @@ use Rattle.filter.specs.Sides.{Sides, pair, ofSide, bothSides}
 use Rattle.filter.specs.Filter.{Filter}
 use Rattle.filter.specs.Part.{part, bothParts}
 use Rattle.filter.proofs.Filters.{few-taps}
+use Rattle.filter.proofs.Sides.{of-mapped}
+use Rattle.matrix.specs.Matrix.{rankOf}
 use Rattle.immunity.specs.declared.Ranks.{Ranks}
 use Rattle.immunity.specs.declared.SideDegree.{SideDegree}
 use Rattle.immunity.specs.First.{first}
@@ -113,13 +115,10 @@ module _ (o : List ℕ) (n : ℕ) (ss : List ℕ) (ps : Sides (List ℕ)) (risin
     ranks-at = ap (λ x. getD x k noRanks) h ∙ value-at (ranksUpTo o n ss ps) 10 k noRanks (omega arith) ∙ rw (le-leb k n l)
 
     -- where the ranks of the set and of a side's part are equal, the part has no new point
-    pub side-none : (side : ℕ) → side ≤ 1 → Each (λ a. List·Memᴰ a ss) (ofSide side ps)
+    pub side-none : (side : ℕ) → Each (λ a. List·Memᴰ a ss) (ofSide side ps)
         → getD ranks k noRanks .set ≡ ofSide side (parts (getD ranks k noRanks)) → newPoint o n k ss (ofSide side ps) ≡ none
-    side-none zero m among e =
-        new-point-none o n k (ps .zero) ss rising among (sym (ap (λ (r : Ranks). r .set) ranks-at) ∙ e ∙ ap (λ (r : Ranks). r .zero) ranks-at)
-    side-none (suc zero) m among e =
-        new-point-none o n k (ps .one) ss rising among (sym (ap (λ (r : Ranks). r .set) ranks-at) ∙ e ∙ ap (λ (r : Ranks). r .one) ranks-at)
-    side-none (suc (suc side)) m among e = absurd (omega arith)
+    side-none side among e = new-point-none o n k (ofSide side ps) ss rising among
+        (sym (ap (λ (r : Ranks). r .set) ranks-at) ∙ e ∙ ap (λ (r : Ranks). ofSide side (parts r)) ranks-at ∙ of-mapped (rankOf o n k) ps side)
 
 -- judgements are equal by parts
 judgement-by : {xs ys : List Ranks} {k j : Option ℕ} {a b c d : ℕ} {ks js : Sides (Option ℕ)} {v w : Sides (List ℕ)} → xs ≡ ys → k ≡ j → a ≡ b → ks ≡ js → c ≡ d → v ≡ w

@@ -138,8 +138,8 @@ write-witnesses-requires c κs =
       k .found-degrees .ensures .1 .1,
       shown s .one-long,
       shown s .zero-long,
-      none 1 (omega arith) (rw (q .before .part-mask .ensures) (part-among 1 (a .set .now) (a .table .now))),
-      none 0 (omega arith) (rw (q .part-mask2 .ensures) (part-among 0 (a .set .now) (a .table .now))),
+      none 1 (rw (q .before .part-mask .ensures) (part-among 1 (a .set .now) (a .table .now))),
+      none 0 (rw (q .part-mask2 .ensures) (part-among 0 (a .set .now) (a .table .now))),
     )
 
 -- the workspace keeps its length up to where it is cleared
