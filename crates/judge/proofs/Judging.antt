@@ -49,6 +49,7 @@ use Rattle.immunity.proofs.Given.{ranks-given}
 use Rattle.immunity.proofs.NewPoint.{new-point-none}
 use Rattle.immunity.proofs.Reported.{reports}
 use Rattle.judge.specs.declared.JudgeAnswer.{JudgeAnswer}
+use Rattle.judge.specs.declared.Report.{Report}
 use Rattle.judge.specs.declared.Finding.the-variants.{Refused, Judged}
 use Rattle.judge.specs.Judge.{judgeChecks, judgeOutcome, found, JudgeContract}
 
@@ -100,11 +101,11 @@ module _ (o : List ℕ) (n : ℕ) (s f : List ℕ) where
     degrees-judged h = h ∙ ap₂ pair (first-given (λ r. partDiffers r 1)) (first-given (λ r. partDiffers r 0))
 
     -- the side there
-    side-judged : {k side : ℕ} → k ≤ n → reported o n s f ≡ some k → side ≡ byte (partDiffers (getD ranks k noRanks) 1) → side ≡ sideAt o n s f (reported o n s f)
+    side-judged : {k : ℕ} → k ≤ n → reported o n s f ≡ some k → byte (partDiffers (getD ranks k noRanks) 1) ≡ sideAt o n s f (reported o n s f)
     unfolding sideAt differs
-    side-judged {k} l r h =
+    side-judged {k} l r =
         let all = ap (λ x. getD x k noRanks) given ∙ ranks-given o n s f k l small in
-        h ∙ ap (λ (x : Ranks). byte (partDiffers x 1)) all ∙ sym (ap (sideAt o n s f) r)
+        ap (λ (x : Ranks). byte (partDiffers x 1)) all ∙ sym (ap (sideAt o n s f) r)
 
 module _ (o : List ℕ) (n : ℕ) (ss : List ℕ) (ps : Sides (List ℕ)) (rising : Rising ss) (small : n ≤ 9)
     (ranks : List Ranks) (h : ranks ≡ map (ranksUpTo o n ss ps) (below 10)) (k : ℕ) (l : k ≤ n)
@@ -141,19 +142,19 @@ module _ {o : List ℕ} (g : Graded o) {n : ℕ} {s f : List ℕ} (filter : Filt
         is ∙ ap some (sym (r j (first-reported o n s f small (ranks-judged o n s f p h) ∙ is)))
 
     -- what is found is the judgement
-    pub judgement-found : {side additions : ℕ} {ks : Sides (Option ℕ)} {w : Sides (List ℕ)} → side ≡ byte (partDiffers (getD ranks k noRanks) 1)
+    pub judgement-found : {additions : ℕ} {ks : Sides (Option ℕ)} {w : Sides (List ℕ)}
         → ks ≡ bothSides (λ i. first (λ d. partDiffers (getD ranks d noRanks) i) (below (n + 1)))
         → additions ≡ summed (λ d. additionsOf o n d (points s) ps) (below (n + 1))
         → w ≡ pair (mask (witnessAt o n k (points s) (ps .one))) (mask (witnessAt o n k (points s) (ps .zero)))
-        → _≡_ {A = Judgement} (record { ranks = ranks; degree = some k; side = side; degrees = ks; additions = additions; witnesses = w }) (judged o n s f)
+        → _≡_ {A = Judgement} (record { ranks = ranks; degree = some k; side = byte (partDiffers (getD ranks k noRanks) 1); degrees = ks; additions = additions; witnesses = w }) (judged o n s f)
     unfolding judged
-    judgement-found a b c e = judgement-by
+    judgement-found a b c = judgement-by
         (ranks-judged o n s f p h)
         (sym is-reported)
-        (side-judged o n s f small (ranks-judged o n s f p h) l is-reported a)
-        (degrees-judged o n s f small (ranks-judged o n s f p h) b)
-        (additions-judged o n s f p c)
-        (bytes-judged o n s f p is-reported e)
+        (side-judged o n s f small (ranks-judged o n s f p h) l is-reported)
+        (degrees-judged o n s f small (ranks-judged o n s f p h) a)
+        (additions-judged o n s f p b)
+        (bytes-judged o n s f p is-reported c)
 
 module _ (o s f : List ℕ) (n : ℕ) (ws one zero : List ℕ) where
   -- the checks of what is lent
@@ -183,14 +184,15 @@ module _ (o s f : List ℕ) (n : ℕ) (ws one zero : List ℕ) where
       }
 
   -- no check is broken
-  pub accepts : verdict checks ≡ verdicts.Passed → {ws′ : List ℕ} {w : Sides (List ℕ)} {ranks : List Ranks} {k side additions : ℕ} {x y : SideDegree} → ws′ ≡ zeros (length ws)
+  pub accepts : verdict checks ≡ verdicts.Passed → {ws′ : List ℕ} {w : Sides (List ℕ)} {ranks : List Ranks} {k side additions : ℕ} {x y : SideDegree} {r : Report} → ws′ ≡ zeros (length ws)
+      → r ≡ record { degree = k; side = side; one = x; zero = y; additions = additions }
       → _≡_ {A = Judgement} (record { ranks = ranks; degree = some k; side = side; degrees = degreesOf x y; additions = additions; witnesses = w }) (judged o n s f)
-      → JudgeContract outcome ws ws′ (pair one zero) w (record { finding = Judged (record { degree = k; side = side; one = x; zero = y; additions = additions }); ranks = ranks })
+      → JudgeContract outcome ws ws′ (pair one zero) w (record { finding = Judged r; ranks = ranks })
   unfolding judgeOutcome
-  accepts p z e =
+  accepts p {w = w} {ranks} z is e =
       let passes : outcome ≡ accepted (judged o n s f) = verdict-passes checks _ p in
       record {
-        answers = ap accepted e ∙ sym passes;
+        answers = ap (λ y. found (Judged y) ranks w) is ∙ ap accepted e ∙ sym passes;
         no-ranks = ap (λ (j : Judgement). j .ranks) e ∙ sym (ap (λ y. leftBy y (replicate 10 noRanks) (λ j. j .ranks)) passes);
         leaves = z ∙ sym (ap (λ y. left y ws (zeros (length ws))) passes);
         leaves-witnesses = ap (λ (j : Judgement). j .witnesses) e ∙ sym (ap (λ y. leftBy y (pair one zero) (λ j. j .witnesses)) passes);

@@ -4,19 +4,20 @@ ghost use mathlib.Core.Path.{_≡_};
 ghost use mathlib.Core.Option.{none};
 ghost use Prim.Native.Nat.{_≤_};
 ghost use lib.ListN.{length, replicate};
-ghost use Rattle.cube.specs.Mask.{points, mask};
+ghost use Rattle.cube.specs.Mask.{points, byte, mask};
 ghost use Rattle.refusal.specs.Verdict.{verdict};
 ghost use Rattle.refusal.specs.declared.verdict.Verdict.the-variants.{Passed};
 ghost use Rattle.order.specs.Order.{Graded};
 ghost use Rattle.order.specs.BuiltIn.{graded};
 ghost use Rattle.filter.specs.Sides.{pair};
-ghost use Rattle.immunity.specs.Ranks.{noRanks};
+ghost use Rattle.immunity.specs.Ranks.{noRanks, partDiffers};
 ghost use Rattle.immunity.specs.Witness.{newPoint, witnessAt};
 ghost use Rattle.degree_ranks.specs.Ready.{Ready, Marks};
 ghost use Rattle.judge.specs.declared.Finding.the-variants.{Refused};
 ghost use Rattle.judge.specs.Judge.{judgeChecks, judgeOutcome, JudgeContract};
 use cube::POINTS;
 use degree_ranks::DEGREES;
+use degree_ranks::FoundDegrees;
 use degree_ranks::all_ranks;
 use degree_ranks::found_degrees;
 use degree_ranks::part_differs;
@@ -133,8 +134,6 @@ fn judge_points(
     let ranks = found.ranks;
     let degrees = found_degrees(ranks, n);
     let k = degrees.reported;
-    let of_one = degrees.one;
-    let of_zero = degrees.zero;
     let here = ranks[k];
     write_witnesses(
         workspace,
@@ -149,16 +148,22 @@ fn judge_points(
         zero,
     );
     clear(workspace);
-    let report = Report {
-        degree: k,
+    let finding = Finding::Judged(report_found(degrees, here, found.additions));
+    JudgeAnswer { finding, ranks }
+}
+
+// The report: the degrees found, the side by the ranks `here` at the reported one, and the additions.
+fn report_found(degrees: FoundDegrees, here: Ranks, additions: u32) -> Report
+    ensures { λ r. ⌜ r ≡ record { degree = degrees .reported; side = byte (partDiffers here 1); one = degrees .one; zero = degrees .zero; additions = additions } ⌝ }
+{
+    let one = degrees.one;
+    let zero = degrees.zero;
+    Report {
+        degree: degrees.reported,
         side: side_of(here),
-        one: of_one,
-        zero: of_zero,
-        additions: found.additions,
-    };
-    JudgeAnswer {
-        finding: Finding::Judged(report),
-        ranks,
+        one,
+        zero,
+        additions,
     }
 }
 

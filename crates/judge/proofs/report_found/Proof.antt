@@ -1,0 +1,18 @@
+use borrow.Author.Needs.{needs}
+use mathlib.Core.Path.{_≡_}
+use Prim.Native.Nat.{ℕ}
+use Rattle.immunity.specs.declared.SideDegree.{SideDegree}
+use Rattle.judge.specs.declared.Report.{Report}
+use Rattle.judge.proofs.report_found.Statement.{statement}
+use Rattle.judge.proofs.report_found.Tie as tie
+
+-- a report with the side under another name
+side-same : {k a b additions : ℕ} {x y : SideDegree} → a ≡ b
+    → _≡_ {A = Report} (record { degree = k; side = a; one = x; zero = y; additions = additions }) (record { degree = k; side = b; one = x; zero = y; additions = additions })
+side-same e = cc
+
+returns : tie.Need-returns
+returns c = side-same (c .side-of .ensures)
+
+pub report-found-spec : {M : Type 1} → statement M
+report-found-spec = tie.close (tie.spec (λ c κs. search needs) returns)
