@@ -26,7 +26,7 @@ use Rattle.immunity.specs.SideDegree.{degreesOf}
 use Rattle.immunity.specs.Judgement.{EqualRanks, reported, sideDegree, Judgement, judged, GivenEqual}
 use Rattle.immunity.proofs.Given.{equal-given}
 use Rattle.immunity.proofs.Reported.{FirstDiffers, reports}
-use Rattle.immunity.proofs.SideDegrees.{side-first, side-equal, side-annihilates, side-lowest, side-whole, sides-smaller, sides-one, side-is-1}
+use Rattle.immunity.proofs.SideDegrees.{side-first, side-equal, side-annihilates, side-lowest, side-whole, side-other, sides-smaller, sides-one, side-is-1}
 use Rattle.judge.specs.declared.Finding.{Finding}
 use Rattle.judge.specs.declared.Finding.the-variants.{Refused, Judged}
 use Rattle.judge.specs.declared.Report.{Report}
@@ -88,6 +88,9 @@ module _ (n : ℕ) (s f : List ℕ) (p : Filter n s f) (has : isEmpty (points s)
         lowest = λ side d l. rw (own side l) (side-lowest graded-is-graded small s f side d);
         none-whole = λ side l. rw (own side l) (side-whole graded-is-graded small s f side inside);
         none-annihilates = λ side l. rw (own side l) (side-annihilates graded-is-graded small s f side);
+        other-zero = λ side other l m apart e.
+            own other m
+            ∙ side-other graded-is-graded small s f side other apart (side-whole graded-is-graded small s f side inside .0 (sym (own side l) ∙ e)) (point .0) (point .1);
       }
 
 -- what is found has the degrees of the judgement

@@ -4,7 +4,7 @@
 --   SidesWords n s f j           what is promised of one n, set and table
 --   BothSides                    the same of all that Judge accepts; what Judge answers and the sheet have these degrees
 use mathlib.Core.Path.{_≡_}
-use mathlib.Core.Logic.{_↔_}
+use mathlib.Core.Logic.{_↔_, _≢_}
 use mathlib.Core.List.{List, _++_}
 use mathlib.Core.Option.{none, some}
 use Prim.Native.Nat.{ℕ, _≤_, _<_}
@@ -50,8 +50,10 @@ pub record SidesWords (n : ℕ) (s f : List ℕ) (j : Judgement) : Type 0 where
   pub lowest : (side d : ℕ) → side ≤ 1 → (ofSide side (j .degrees) ≡ some d) ↔ LowestDegree n (part side s f) (points s) d
   -- there is none exactly when the part is all of S,
   pub none-whole : (side : ℕ) → side ≤ 1 → (ofSide side (j .degrees) ≡ none) ↔ (part side s f ≡ points s)
-  -- and exactly when there is no such polynomial
+  -- and exactly when there is no such polynomial,
   pub none-annihilates : (side : ℕ) → side ≤ 1 → (ofSide side (j .degrees) ≡ none) ↔ ((p : Polynomial) → ¬ Annihilator n p (part side s f) (points s))
+  -- and the other side then has degree 0
+  pub other-zero : (side other : ℕ) → side ≤ 1 → other ≤ 1 → other ≢ side → ofSide side (j .degrees) ≡ none → ofSide other (j .degrees) ≡ some 0
 
 -- of every n, set and table that Judge accepts
 pub record BothSides : Type 0 where

@@ -104,7 +104,7 @@ first-or t r (x ∷ xs) h = go (t x) (r x) (first-or t r xs (h .1))
     go false true e = smaller-right x (first t xs) (later t)
     go false false e = e
 
--- where one exists, the smaller is found by counting n, which neither passes, for none
+-- where one exists, the smaller is found by counting n, which neither exceeds, for none
 pub smaller-counted : (n : ℕ) (x y : Option ℕ) → Option·getD x n ≤ n → Option·getD y n ≤ n → (k : ℕ) → smaller x y ≡ some k
     → min (Option·getD x n) (Option·getD y n) ≡ k
 unfolding smaller

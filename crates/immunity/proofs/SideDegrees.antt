@@ -4,11 +4,12 @@
 --   side-annihilates   and exactly when the side has no annihilator
 --   side-lowest        it is the lowest degree of an annihilator of the side
 --   side-whole         there is none exactly when the part is all of the set
+--   side-other         the other side has degree 0 then
 --   sides-smaller      the reported degree is the smaller of those that exist
 --   sides-one          one exists where a degree is reported
 --   side-is-1          the side is 1 exactly when side 1 has a degree and it is the reported one
 use mathlib.Core.Path.{_≡_, refl, sym, ap, _∙_}
-use mathlib.Core.Logic.{_↔_}
+use mathlib.Core.Logic.{_↔_, _≢_}
 use mathlib.Core.Bool.{Bool, true, false}
 use mathlib.Core.List.{List, List·Memᴰ}
 use mathlib.Core.Option.{Option, none, some}
@@ -16,14 +17,19 @@ use Prim.Native.Nat.{ℕ, _+_, _≤_, _<_}
 use native.Mathlib.Omega.{arith}
 use native.Mathlib.Decide.{decLt}
 use lib.Dec.{eqb}
+use lib.Count.{ones}
 use lib.ListN.{getD}
+use lib.Pow.{pow-pos}
+use borrow.Author.Tests.{eqb-true}
 use Rattle.cube.specs.NumberLists.{below, Inside}
-use Rattle.cube.specs.Cube.{size}
+use Rattle.cube.specs.Cube.{size, within}
 use Rattle.cube.specs.Mask.{points, byte}
-use Rattle.cube.proofs.Listed.{select-all}
+use Rattle.cube.proofs.Listed.{select-all, member-select}
 use Rattle.order.specs.Order.{Graded}
-use Rattle.polynomial.specs.Polynomial.{Polynomial, UpTo}
+use Rattle.gf2.proofs.Each.{member-each}
+use Rattle.polynomial.specs.Polynomial.{Polynomial, value, UpTo}
 use Rattle.polynomial.proofs.HasDegree.{has-degree}
+use Rattle.polynomial.proofs.Sums.{sum-one}
 use Rattle.polynomial.proofs.Value.{up-to-all}
 use Rattle.matrix.specs.Matrix.{rankOf}
 use Rattle.matrix.proofs.Rising.{below-rising, points-rising}
@@ -142,3 +148,25 @@ module _ {o : List ℕ} (g : Graded o) {n : ℕ} (small : n ≤ 9) (s f : List �
       go : sideDegree o n s f side ≡ none → (a : ℕ) → List·Memᴰ a (points s) → (b : Bool) → eqb (getD f a 0) side ≡ b → eqb (getD f a 0) side ≡ true
       go e a m true q = q
       go e a m false q = absurd (outside-differs g small s f inside a m side q (side-equal o n s f side .0 e n (omega arith)))
+
+-- the polynomial 1 is one at every point
+one-value : (n a : ℕ) → value n (eqb 0) a ≡ true
+unfolding value within
+one-value n a = sum-one (size n) 0 (λ u. within u a) (pow-pos n)
+
+-- where the part is all of the set the other side has degree 0: its part is empty, and the polynomial 1 is an annihilator
+pub side-other : {o : List ℕ} → Graded o → {n : ℕ} → n ≤ 9 → (s f : List ℕ) (side other : ℕ) → other ≢ side → part side s f ≡ points s
+    → (a : ℕ) → List·Memᴰ a (points s) → sideDegree o n s f other ≡ some 0
+unfolding ones
+side-other g {n} small s f side other apart whole a point = side-lowest g small s f other 0 .1 (record {
+  polynomial = eqb 0;
+  annihilates = record { zero = member-each _ (part other s f) (λ b m. absurd (apart (same b m))); point = a; inside = point; one = one-value n a };
+  has-degree = record { top = 0; inside = pow-pos n; chosen = refl; weighs = refl; most = λ u l e. rw (← eqb-true 0 u e) (omega arith) };
+  least = λ e p h d. omega arith;
+})
+  where
+    same : (b : ℕ) → List·Memᴰ b (part other s f) → other ≡ side
+    same b m =
+        let (is, inside) = member-select _ (points s) b .0 m in
+        let whose : List·Memᴰ b (part side s f) = rw whole inside in
+        sym (eqb-true (getD f b 0) other is) ∙ eqb-true (getD f b 0) side (member-select _ (points s) b .0 whose .0)
