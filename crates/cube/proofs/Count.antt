@@ -2,13 +2,15 @@
 --   countBelow m t   how many numbers below m pass the test t
 --   count-none       where none passes the count is zero
 --   count-same       tests that agree have the same count
+--   count-split      the count by two ranges
 --   count-more       one more number that passes
 --   count-full       where as many pass as there are, all do
 use mathlib.Core.Path.{_≡_, refl, ap}
 use mathlib.Core.Bool.{Bool, true, false, _||_}
-use Prim.Native.Nat.{ℕ, zero, suc, _≤_, _<_}
+use Prim.Native.Nat.{ℕ, zero, suc, _+_, _≤_, _<_}
 use native.Mathlib.Omega.{arith}
 use native.Mathlib.Decide.{decLt}
+use native.Mathlib.Nat.{add-zero, add-suc}
 use lib.Dec.{eqb}
 use borrow.Author.Tests.{eqb-true, eqb-false, ne-eqb}
 
@@ -43,6 +45,17 @@ pub count-same : (m : ℕ) (t r : ℕ → Bool) → ((u : ℕ) → u < m → t u
 unfolding countBelow
 count-same zero t r h = refl
 count-same (suc m) t r h = rw (h m (omega arith), count-same m t r (λ u l. h u (omega arith)))
+
+-- the count by two ranges
+pub count-split : (m k : ℕ) (t : ℕ → Bool) → countBelow (m + k) t ≡ countBelow m t + countBelow k (λ u. t (m + u))
+unfolding countBelow
+count-split m zero t = simp add-zero
+count-split m (suc k) t = rw add-suc (go (t (m + k)) refl (count-split m k t))
+  where
+    go : (b : Bool) → t (m + k) ≡ b → countBelow (m + k) t ≡ countBelow m t + countBelow k (λ u. t (m + u))
+        → countBelow (suc (m + k)) t ≡ countBelow m t + countBelow (suc k) (λ u. t (m + u))
+    go true e later = rw e (omega arith)
+    go false e later = rw e later
 
 -- one more number that passes
 pub count-more : (m x : ℕ) (t : ℕ → Bool) → x < m → t x ≡ false → countBelow m (λ u. eqb x u || t u) ≡ suc (countBelow m t)

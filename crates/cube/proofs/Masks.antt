@@ -5,6 +5,7 @@
 --   select-below    what a test keeps of the numbers below a bound, one number more
 --   select-yes      the next number passes a test
 --   select-no       it does not
+--   select-count    a test keeps as many of the numbers below a bound as pass it
 --   value-at        a list of values for the numbers below m holds the value of each at its place
 --   markedFrom b i  the numbers from i on that the mask b marks: what a scan has yet to pass
 --   marked-all      from 0 on they are all
@@ -33,11 +34,12 @@ use native.Mathlib.Decide.{decLt}
 use native.Mathlib.Nat.{zero-add}
 use native.Mathlib.Numerals.{add-one}
 use lib.Dec.{eqb, leb}
-use lib.ListN.{length, getD, List·getD-eq-default}
+use lib.ListN.{length, getD, length-append, List·getD-eq-default}
 use borrow.Author.Tests.{eqb-true, leb-true, eq-eqb, ne-eqb, le-leb, not-true}
 use Rattle.cube.specs.NumberLists.{upFrom, below, consIf, select, lists, isEmpty, Inside}
 use Rattle.cube.specs.Cube.{size}
 use Rattle.cube.specs.Mask.{bitsThenZeros, wellFormed, WellFormed, member, marked, points, HasPoint, byte, mask}
+use Rattle.cube.proofs.Count.{countBelow}
 use Rattle.cube.proofs.Listed.{and-both, lists-member, not-listed, member-select, select-snoc, select-fewer, some-member}
 
 -- the numbers from one on
@@ -90,6 +92,16 @@ select-yes t a e = select-below t a ∙ ap (λ z. select t (below a) ++ consIf z
 pub select-no : (t : ℕ → Bool) (a : ℕ) → t a ≡ false → select t (below (a + 1)) ≡ select t (below a)
 unfolding consIf
 select-no t a e = select-below t a ∙ ap (λ z. select t (below a) ++ consIf z a []) e ∙ append-nil (select t (below a))
+
+-- as many of the numbers below a bound are kept as pass
+pub select-count : (m : ℕ) (t : ℕ → Bool) → length (select t (below m)) ≡ countBelow m t
+unfolding countBelow upFrom select
+select-count zero t = refl
+select-count (suc m) t = ap (λ k. length (select t (below k))) (sym (add-one m)) ∙ go (t m) refl (select-count m t)
+  where
+    go : (b : Bool) → t m ≡ b → length (select t (below m)) ≡ countBelow m t → length (select t (below (m + 1))) ≡ countBelow (suc m) t
+    go true e later = ap length (select-yes t m e) ∙ length-append (select t (below m)) (m ∷ []) ∙ rw (e, later) (omega arith)
+    go false e later = ap length (select-no t m e) ∙ rw e later
 
 -- a value for each of them, by place
 values-from : {B : Type 0} (f : ℕ → B) (u k i : ℕ) (d : B) → i < k → getD (map f (upFrom u k)) i d ≡ f (u + i)
