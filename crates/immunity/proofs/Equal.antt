@@ -1,7 +1,6 @@
 -- Equal ranks: just where no polynomial up to the degree is zero on the part and one somewhere on the set.
 --   equal-sums              equal ranks mean that the row of each point of the set is a sum of rows of the part
 --   separates-annihilates   a row that separates the row of a point from the rows of the part is an annihilator
---   zero-orthogonal         a polynomial that is zero on the part is even with its rows
 --   equal-none              and that no polynomial up to the degree is zero on the part and one somewhere on the set
 use mathlib.Core.Path.{_≡_, sym, _∙_}
 use mathlib.Core.Bool.{false, false≢true}
@@ -9,14 +8,14 @@ use mathlib.Core.List.{List, map, List·Memᴰ}
 use mathlib.Core.Logic.{_↔_, _⊎_, inl, inr}
 use Prim.Native.Nat.{ℕ, _≤_}
 use Rattle.order.specs.Order.{Graded, columns}
-use Rattle.gf2.specs.Vector.{Row, dot, Each, SumOf, Orthogonal, Separates}
+use Rattle.gf2.specs.Vector.{Row, dot, Each, SumOf, Separates}
 use Rattle.gf2.proofs.Each.{each-map, each-member, member-each, each-of-map}
 use Rattle.gf2.proofs.Duality.{orthogonal-sum, separate}
 use Rattle.gf2.proofs.Kept.{equal-kept}
-use Rattle.polynomial.specs.Polynomial.{Polynomial, value, UpTo}
+use Rattle.polynomial.specs.Polynomial.{Polynomial, UpTo}
 use Rattle.point_rows.specs.Rows.{row, rows}
 use Rattle.matrix.specs.Matrix.{eliminated, rankOf, choice}
-use Rattle.matrix.proofs.Product.{value-dot, choice-up-to, choice-value}
+use Rattle.matrix.proofs.Product.{value-dot, zero-orthogonal, choice-up-to, choice-value}
 use Rattle.immunity.specs.Annihilator.{Annihilator}
 
 -- equal ranks mean that the row of each point of the set is a sum of rows of the part
@@ -36,18 +35,12 @@ module _ {o : List ℕ} (g : Graded o) {n : ℕ} (small : n ≤ 9) (d : ℕ) whe
     one = choice-value g small d x a ∙ odd;
   }
 
-  -- a polynomial that is zero on the part is even with its rows
-  pub zero-orthogonal : (p : Polynomial) → UpTo n d p → (ps : List ℕ) → Each (λ a. value n p a ≡ false) ps
-      → Orthogonal (map p (columns o n d)) (rows o n d ps)
-  zero-orthogonal p u ps z =
-      each-of-map (λ v. dot (map p (columns o n d)) v ≡ false) (row o n d) ps .1 (each-map (λ a e. sym (value-dot g small d p a u) ∙ e) ps z)
-
   module _ (ss ps : List ℕ) (among : Each (λ a. List·Memᴰ a ss) ps) where
     -- where the rows of the set are sums, what is zero on the part is zero on the set
     none-annihilates : Each (λ a. SumOf (rows o n d ps) (row o n d a)) ss → (p : Polynomial) → UpTo n d p → ¬ Annihilator n p ps ss
     none-annihilates sums p u c =
         let there : SumOf (rows o n d ps) (row o n d (c .point)) = each-member (λ a. SumOf (rows o n d ps) (row o n d a)) sums (c .inside) in
-        false≢true (sym (orthogonal-sum (map p (columns o n d)) (zero-orthogonal p u ps (c .zero)) there) ∙ sym (value-dot g small d p (c .point) u) ∙ c .one)
+        false≢true (sym (orthogonal-sum (map p (columns o n d)) (zero-orthogonal g small d p u ps (c .zero)) there) ∙ sym (value-dot g small d p (c .point) u) ∙ c .one)
 
     -- where there is no annihilator, the rows of the set are sums: else a row would separate one
     none-sums : ((p : Polynomial) → UpTo n d p → ¬ Annihilator n p ps ss) → Each (λ a. SumOf (rows o n d ps) (row o n d a)) ss

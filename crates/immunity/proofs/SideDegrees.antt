@@ -29,8 +29,7 @@ use Rattle.order.specs.Order.{Graded}
 use Rattle.gf2.proofs.Each.{member-each}
 use Rattle.polynomial.specs.Polynomial.{Polynomial, value, UpTo}
 use Rattle.polynomial.proofs.HasDegree.{has-degree}
-use Rattle.polynomial.proofs.Sums.{sum-one}
-use Rattle.polynomial.proofs.Value.{up-to-all}
+use Rattle.polynomial.proofs.Value.{monomial-value, up-to-all}
 use Rattle.matrix.specs.Matrix.{rankOf}
 use Rattle.matrix.proofs.Rising.{below-rising, points-rising}
 use Rattle.filter.specs.Part.{part}
@@ -151,8 +150,8 @@ module _ {o : List ℕ} (g : Graded o) {n : ℕ} (small : n ≤ 9) (s f : List �
 
 -- the polynomial 1 is one at every point
 one-value : (n a : ℕ) → value n (eqb 0) a ≡ true
-unfolding value within
-one-value n a = sum-one (size n) 0 (λ u. within u a) (pow-pos n)
+unfolding within
+one-value n a = monomial-value n 0 a (pow-pos n)
 
 -- where the part is all of the set the other side has degree 0: its part is empty, and the polynomial 1 is an annihilator
 pub side-other : {o : List ℕ} → Graded o → {n : ℕ} → n ≤ 9 → (s f : List ℕ) (side other : ℕ) → other ≢ side → part side s f ≡ points s

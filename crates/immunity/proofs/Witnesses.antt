@@ -8,7 +8,6 @@
 use mathlib.Core.Path.{_≡_, refl, sym, ap, _∙_}
 use mathlib.Core.Bool.{Bool, true, false}
 use mathlib.Core.List.{List, [], _∷_, _++_, map, List·Memᴰ}
-use mathlib.Core.Option.{none}
 use Prim.Native.Nat.{ℕ, _≤_, _<_}
 use native.Mathlib.Decide.{decLt}
 use native.Mathlib.Omega.{arith}
@@ -31,11 +30,11 @@ use Rattle.polynomial.specs.Polynomial.{Polynomial, value}
 use Rattle.polynomial.proofs.Value.{value-same}
 use Rattle.point_rows.specs.Rows.{row, rows}
 use Rattle.matrix.specs.Matrix.{rankOf, choice}
-use Rattle.matrix.proofs.Product.{value-dot, choice-up-to, choice-value, choice-at}
+use Rattle.matrix.proofs.Product.{value-dot, zero-orthogonal, choice-up-to, choice-value, choice-at}
 use Rattle.immunity.specs.Witness.{NewPoint, OnNewColumns, IsWitness, witnessRow, witnessAt}
 use Rattle.immunity.specs.Annihilator.{Annihilator}
 use Rattle.immunity.proofs.NewPoint.{new-point-is, new-point-found, new-point-none, new-point-unique}
-use Rattle.immunity.proofs.Equal.{separates-annihilates, zero-orthogonal}
+use Rattle.immunity.proofs.Equal.{separates-annihilates}
 
 -- a row of values has none past the list
 entry-past : (f : ℕ → Bool) (xs : List ℕ) (c : ℕ) → length xs ≤ c → entry (map f xs) c ≡ false

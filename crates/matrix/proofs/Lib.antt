@@ -2,6 +2,7 @@
 pub mod AnyOrder
 pub mod Combining
 pub mod Following
+pub mod FullRank
 pub mod Product
 pub mod RankOf
 pub mod Ranked

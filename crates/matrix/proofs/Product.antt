@@ -1,9 +1,10 @@
 -- Values of polynomials up to a degree as parities of rows.
---   value-dot      the value of a polynomial up to a degree is the parity of its coefficients with the point's row
---   choice-up-to   a choice of columns is a polynomial up to the degree
---   choice-value   its value at a point is the parity of the choice with the point's row
---   choice-at      it chooses the exponent of a column just if the row has a one there
-use mathlib.Core.Path.{_≡_, refl, sym}
+--   value-dot         the value of a polynomial up to a degree is the parity of its coefficients with the point's row
+--   zero-orthogonal   a polynomial up to a degree that is zero on points is even with their rows
+--   choice-up-to      a choice of columns is a polynomial up to the degree
+--   choice-value      its value at a point is the parity of the choice with the point's row
+--   choice-at         it chooses the exponent of a column just if the row has a one there
+use mathlib.Core.Path.{_≡_, refl, sym, _∙_}
 use mathlib.Core.Bool.{Bool, true, false, _&&_, and-false}
 use mathlib.Core.List.{List, [], _∷_, map, List·Memᴰ}
 use Prim.Native.Nat.{ℕ, zero, suc, _≤_, _<_}
@@ -15,12 +16,12 @@ use Rattle.cube.specs.Cube.{size, within}
 use Rattle.order.specs.Order.{Graded, columns}
 use Rattle.cube.proofs.Listed.{Distinct, lists-member, not-listed, place-member}
 use Rattle.order.proofs.DegreeColumns.{member-columns, columns-distinct}
-use Rattle.gf2.specs.Vector.{Row, Choice, entry, dot, chosen}
+use Rattle.gf2.specs.Vector.{Row, Choice, entry, dot, chosen, Each, Orthogonal}
 use Rattle.gf2.proofs.Bits.{false-xor}
-use Rattle.gf2.proofs.Each.{each-member, chosen-among}
+use Rattle.gf2.proofs.Each.{each-map, each-member, each-of-map, chosen-among}
 use Rattle.polynomial.specs.Polynomial.{Polynomial, value, UpTo}
 use Rattle.polynomial.proofs.Sums.{sumOver, sum-same, sum-listed}
-use Rattle.point_rows.specs.Rows.{row}
+use Rattle.point_rows.specs.Rows.{row, rows}
 use Rattle.matrix.specs.Matrix.{choice}
 
 -- the parity of two rows of tests is the sum of their product
@@ -75,6 +76,12 @@ module _ {o : List ℕ} (g : Graded o) {n : ℕ} (small : n ≤ 9) (d : ℕ) whe
       go : (u : ℕ) → u < size n → (b : Bool) → p u ≡ b → (b && within u a) ≡ (lists (columns o n d) u && (b && within u a))
       go u l true e = rw (lists-member (columns o n d) u .1 (member-columns g n d u small .1 (l, h u l e)))
       go u l false e = rw and-false
+
+  -- a polynomial up to a degree that is zero on points is even with their rows
+  pub zero-orthogonal : (p : Polynomial) → UpTo n d p → (ps : List ℕ) → Each (λ a. value n p a ≡ false) ps
+      → Orthogonal (map p (columns o n d)) (rows o n d ps)
+  zero-orthogonal p u ps z =
+      each-of-map (λ v. dot (map p (columns o n d)) v ≡ false) (row o n d) ps .1 (each-map (λ a e. sym (value-dot p a u) ∙ e) ps z)
 
   -- a choice of columns is a polynomial up to the degree
   pub choice-up-to : (x : Row) → UpTo n d (choice o n d x)

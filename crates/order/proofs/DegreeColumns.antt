@@ -3,8 +3,9 @@
 --   member-columns     the columns are the exponents of n taps up to the degree
 --   columns-distinct   each stands once
 --   length-columns     there are at most 512
+--   count-columns      as many as exponents of n taps weigh at most d
 --   columns-prefix     the columns of a degree are the first columns of a higher degree
-use mathlib.Core.Path.{_≡_, refl, ap}
+use mathlib.Core.Path.{_≡_, refl, sym, ap, _∙_}
 use mathlib.Core.Logic.{_↔_}
 use mathlib.Core.Bool.{Bool, true, false}
 use mathlib.Core.List.{List, [], _∷_, List·Memᴰ, List·Memᴰ·head, List·Memᴰ·tail}
@@ -15,9 +16,10 @@ use lib.Dec.{ltb, leb}
 use lib.ListN.{length, getD, take}
 use lib.Pow.{pow-mono}
 use borrow.Author.Tests.{ltb-true, leb-true, leb-false, lt-ltb, le-leb, lt-leb}
-use Rattle.cube.specs.NumberLists.{consIf, select, Inside}
+use Rattle.cube.specs.NumberLists.{consIf, select, lists, Inside}
 use Rattle.cube.specs.Cube.{size, weight}
-use Rattle.cube.proofs.Listed.{member-place, select-cases, member-select, select-select, select-all, length-select, Distinct, distinct-places, distinct-select, member-all}
+use Rattle.cube.proofs.Count.{countBelow, count-same}
+use Rattle.cube.proofs.Listed.{lists-member, not-listed, member-place, select-cases, member-select, select-select, select-all, length-select, Distinct, distinct-places, distinct-select, count-listed, member-all}
 use Rattle.order.specs.Order.{Graded, columns}
 
 -- weights never fall along the list
@@ -91,6 +93,16 @@ module _ {o : List ℕ} (g : Graded o) where
   pub length-columns : (n d : ℕ) → length (columns o n d) ≤ 512
   length-columns n d =
       omega (arith, length-select (λ u. leb (weight u) d) (select (λ u. ltb u (size n)) o), length-select (λ u. ltb u (size n)) o, g .long)
+
+  -- as many as exponents of n taps weigh at most d
+  pub count-columns : (n d : ℕ) → n ≤ 9 → length (columns o n d) ≡ countBelow (size n) (λ u. leb (weight u) d)
+  count-columns n d small =
+      sym (count-listed (size n) (columns o n d) (columns-distinct n d) (λ u m. member-columns n d u small .0 m .0))
+      ∙ count-same (size n) (lists (columns o n d)) (λ u. leb (weight u) d) (λ u l. go u l (leb (weight u) d) refl)
+    where
+      go : (u : ℕ) → u < size n → (b : Bool) → leb (weight u) d ≡ b → lists (columns o n d) u ≡ b
+      go u l true e = lists-member (columns o n d) u .1 (member-columns n d u small .1 (l, leb-true (weight u) d e))
+      go u l false e = not-listed (columns o n d) u (λ m. omega (arith, member-columns n d u small .0 m .1, leb-false (weight u) d e))
 
   -- the columns of a degree are the first columns of a higher degree
   pub columns-prefix : (n d e : ℕ) → d ≤ e → columns o n d ≡ take (length (columns o n d)) (columns o n e)
