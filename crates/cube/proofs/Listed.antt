@@ -9,6 +9,7 @@
 --   select-select     of two tests the second of which is implied by the first, the first decides
 --   select-all        a test that each passes keeps all
 --   length-select     no more are kept than there are
+--   length-split      two tests, just one of which each number passes, keep as many as there are
 --   select-fewer      fewer are kept where a member does not pass
 --   select-snoc       what a test keeps of a list with one number more at its end
 --   select-take-yes   what a test keeps of the first numbers of a list, where the next one passes
@@ -139,6 +140,17 @@ length-select t [] = omega arith
 length-select t (x ∷ xs) =
     let later : length (select t xs) ≤ length xs = length-select t xs in
     select-cases (λ l. length l ≤ suc (length xs)) t x xs (λ e. omega (arith, later)) (λ e. omega (arith, later))
+
+-- two tests, just one of which each number passes, keep as many as there are
+pub length-split : (t r : ℕ → Bool) → ((u : ℕ) → r u ≡ not (t u)) → (xs : List ℕ) → length (select t xs) + length (select r xs) ≡ length xs
+unfolding select consIf
+length-split t r h [] = refl
+length-split t r h (x ∷ xs) = rw (h x) (go (t x) (length-split t r h xs))
+  where
+    go : (b : Bool) → length (select t xs) + length (select r xs) ≡ length xs
+        → length (consIf b x (select t xs)) + length (consIf (not b) x (select r xs)) ≡ suc (length xs)
+    go true later = omega arith
+    go false later = omega arith
 
 -- fewer are kept where a member does not pass
 pub select-fewer : (t : ℕ → Bool) (xs : List ℕ) {a : ℕ} → List·Memᴰ a xs → t a ≡ false → length (select t xs) < length xs

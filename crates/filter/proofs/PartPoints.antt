@@ -1,25 +1,37 @@
 -- The points of a part.
---   part-inside   they are points of n taps where those of the set are
---   partTest      whether a number is one of them, by the bytes of the set and the table
---   part-points   a mask whose bytes are those of this test has them as its points
-use mathlib.Core.Path.{_≡_, sym, ap, _∙_}
-use mathlib.Core.Bool.{Bool, _&&_}
+--   part-inside    they are points of n taps where those of the set are
+--   parts-length   those of both parts are as many as those of the set
+--   partTest       whether a number is one of them, by the bytes of the set and the table
+--   part-points    a mask whose bytes are those of this test has them as its points
+use mathlib.Core.Path.{_≡_, refl, sym, ap, _∙_}
+use mathlib.Core.Bool.{Bool, true, not, _&&_}
 use mathlib.Core.List.{List}
-use Prim.Native.Nat.{ℕ, _<_}
+use Prim.Native.Nat.{ℕ, zero, suc, _+_, _≤_, _<_}
 use native.Mathlib.Omega.{arith}
 use lib.Dec.{eqb}
 use lib.ListN.{length, getD}
 use lib.Seq.{ext-getD}
 use Rattle.cube.specs.NumberLists.{below, select, Inside}
-use Rattle.cube.specs.Mask.{member, points, byte, mask}
-use Rattle.cube.proofs.Listed.{and-both, member-select, select-select}
-use Rattle.cube.proofs.Masks.{value-at}
+use Rattle.cube.specs.Cube.{size}
+use Rattle.cube.specs.Mask.{wellFormed, member, points, byte, mask}
+use Rattle.cube.proofs.Listed.{and-both, member-select, select-select, length-split}
+use Rattle.cube.proofs.Masks.{value-at, byte-small}
 use Rattle.cube.proofs.MaskOf.{length-mask, select-same, points-mask}
 use Rattle.filter.specs.Part.{part}
 
 -- they are points of n taps where those of the set are
 pub part-inside : (side m : ℕ) (s f : List ℕ) → Inside m (points s) → Inside m (part side s f)
 part-inside side m s f inside a i = inside a (member-select (λ b. eqb (getD f b 0) side) (points s) a .0 i .1)
+
+-- a byte that is 0 or 1 is just one of them
+bit-either : (x : ℕ) → x ≤ 1 → eqb x 0 ≡ not (eqb x 1)
+bit-either zero l = refl
+bit-either (suc zero) l = refl
+bit-either (suc (suc x)) l = absurd (omega arith)
+
+-- those of both parts are as many as those of the set
+pub parts-length : (n : ℕ) (s f : List ℕ) → wellFormed n f ≡ true → length (part 1 s f) + length (part 0 s f) ≡ length (points s)
+parts-length n s f w = length-split _ _ (λ a. bit-either (getD f a 0) (byte-small (size n) f a w)) (points s)
 
 -- whether a number is one of them
 abbrev pub partTest : ℕ → List ℕ → List ℕ → ℕ → Bool
