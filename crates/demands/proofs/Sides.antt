@@ -1,6 +1,6 @@
 -- What is promised of each side's own degree holds.
 --   both-sides   every sentence
-use mathlib.Core.Path.{_≡_, refl, sym, ap, _∙_}
+use mathlib.Core.Path.{_≡_, sym, ap, _∙_}
 use mathlib.Core.Logic.{_↔_}
 use mathlib.Core.Bool.{false}
 use mathlib.Core.List.{List, List·Memᴰ, _++_, append-assoc}
@@ -15,23 +15,15 @@ use Rattle.cube.proofs.Listed.{some-member}
 use Rattle.cube.proofs.Masks.{points-inside}
 use Rattle.order.specs.BuiltIn.{graded}
 use Rattle.order.proofs.BuiltIn.{graded-is-graded}
-use Rattle.refusal.specs.Outcome.{Outcome, accepted, leftBy}
-use Rattle.refusal.proofs.Outcomes.{not-both}
-use Rattle.filter.specs.Sides.{Sides, ofSide}
+use Rattle.filter.specs.Sides.{ofSide}
 use Rattle.filter.specs.Filter.{Filter}
 use Rattle.filter.proofs.Filters.{few-taps}
 use Rattle.filter.proofs.Sides.{of-both}
-use Rattle.immunity.specs.declared.Ranks.{Ranks}
-use Rattle.immunity.specs.SideDegree.{degreesOf}
 use Rattle.immunity.specs.Judgement.{EqualRanks, reported, sideDegree, Judgement, judged, GivenEqual}
 use Rattle.immunity.proofs.Given.{equal-given}
 use Rattle.immunity.proofs.Reported.{FirstDiffers, reports}
 use Rattle.immunity.proofs.SideDegrees.{side-first, side-equal, side-annihilates, side-lowest, side-whole, side-other, sides-smaller, sides-one, side-is-1}
-use Rattle.judge.specs.declared.Finding.{Finding}
-use Rattle.judge.specs.declared.Finding.the-variants.{Refused, Judged}
-use Rattle.judge.specs.declared.Report.{Report}
-use Rattle.judge.specs.Judge.{found}
-use Rattle.judge.proofs.Passed.{judge-accepted}
+use Rattle.judge.proofs.Passed.{judge-accepted, found-judged}
 use Rattle.text.specs.Text.{Text}
 use Rattle.sheet_lines.specs.Lines.{firstLine, rankLines, degreeLine, sidesLine, additionsLine}
 use Rattle.sheet_text.specs.Sheet.{sums, reportLines, judgementSheet}
@@ -83,7 +75,7 @@ module _ (n : ℕ) (s f : List ℕ) (p : Filter n s f) (has : isEmpty (points s)
           λ h. side-equal graded n s f side .1 (λ d m. given side d l m .0 (h d m)),
         );
         reported = sides-smaller graded n s f;
-        one-exists = let (side, d, l, e) = sides-one graded n s f k is in (side, d, l, own side l ∙ e);
+        one-exists = let (side, l, e) = sides-one graded n s f k r in (side, k, l, own side l ∙ e);
         side-1 = side-is-1 graded n s f k is r;
         lowest = λ side d l. rw (own side l) (side-lowest graded-is-graded small s f side d);
         none-whole = λ side l. rw (own side l) (side-whole graded-is-graded small s f side inside);
@@ -92,14 +84,6 @@ module _ (n : ℕ) (s f : List ℕ) (p : Filter n s f) (has : isEmpty (points s)
             own other m
             ∙ side-other graded-is-graded small s f side other apart (side-whole graded-is-graded small s f side inside .0 (sym (own side l) ∙ e)) (point .0) (point .1);
       }
-
--- what is found has the degrees of the judgement
-answered-has : (x : Finding) (rs : List Ranks) (w : Sides (List ℕ)) (j : Judgement) → found x rs w ≡ accepted j → (r : Report) × (x ≡ Judged r)
-    × (degreesOf (r .one) (r .zero) ≡ j .degrees) × (some (r .degree) ≡ j .degree) × (r .side ≡ j .side)
-answered-has (Refused y) rs w j e = absurd (not-both e)
-answered-has (Judged r) rs w j e =
-    let same : _≡_ {A = Judgement} _ j = ap (λ (o : Outcome Judgement). leftBy o j (λ i. i)) e in
-    (r, refl, ap (λ (i : Judgement). i .degrees) same, ap (λ (i : Judgement). i .degree) same, ap (λ (i : Judgement). i .side) same)
 
 -- the lines of a judgement's sheet where a degree is reported, one behind the other
 sheet-lines : (n : ℕ) (s f : List ℕ) (j : Judgement) (k : ℕ) → j .degree ≡ some k
@@ -117,7 +101,9 @@ sheet-lines n s f j k e =
 pub both-sides : BothSides
 both-sides = record {
   every = λ n s f j e. let (h, has, is) = judge-accepted graded n s f j e in rw (← is) (sides-words n s f h has);
-  answered = λ o ws ws′ w w′ a j h e. answered-has (a .finding) (a .ranks) w′ j (h .answers ∙ e);
+  answered = λ o ws ws′ w w′ a j h e.
+      let (r, is, same) = found-judged (a .finding) (a .ranks) w′ j (h .answers ∙ e) in
+      (r, is, ap (λ (i : Judgement). i .degrees) same, ap (λ (i : Judgement). i .degree) same, ap (λ (i : Judgement). i .side) same);
   printed = λ file c j e h.
       let s : List ℕ = mask (lists (c .set)) in
       let f : List ℕ = mask (lists (c .table)) in

@@ -6,10 +6,10 @@
 --   side-whole         there is none exactly when the part is all of the set
 --   side-other         the other side has degree 0 then
 --   sides-smaller      the reported degree is the smaller of those that exist
---   sides-one          one exists where a degree is reported
+--   sides-one          some side's own is the reported one
 --   side-is-1          the side is 1 exactly when side 1 has a degree and it is the reported one
 use mathlib.Core.Path.{_≡_, refl, sym, ap, _∙_}
-use mathlib.Core.Logic.{_↔_, _≢_}
+use mathlib.Core.Logic.{_↔_, _≢_, inl, inr}
 use mathlib.Core.Bool.{Bool, true, false}
 use mathlib.Core.List.{List, List·Memᴰ}
 use mathlib.Core.Option.{Option, none, some}
@@ -70,16 +70,12 @@ module _ (o : List ℕ) (n : ℕ) (s f : List ℕ) where
   unfolding reported sideDegree
   sides-smaller = first-or (test 1) (test 0) (below (n + 1)) (below-rising (n + 1))
 
-  -- one exists where a degree is reported
-  pub sides-one : (k : ℕ) → reported o n s f ≡ some k → (side : ℕ) × (d : ℕ) × (side ≤ 1) × (sideDegree o n s f side ≡ some d)
-  unfolding smaller
-  sides-one k is = go (sideDegree o n s f 1) (sideDegree o n s f 0) refl refl (sym sides-smaller ∙ is)
+  -- some side's own is the reported one
+  pub sides-one : (k : ℕ) → FirstDiffers o n s f k → (side : ℕ) × (side ≤ 1) × (sideDegree o n s f side ≡ some k)
+  sides-one k r = elim (r .at) [ inl h ↦ (1, omega arith, own 1 (omega arith) h) | inr h ↦ (0, omega arith, own 0 (omega arith) h) ]
     where
-      go : (x y : Option ℕ) → sideDegree o n s f 1 ≡ x → sideDegree o n s f 0 ≡ y → smaller x y ≡ some k
-          → (side : ℕ) × (d : ℕ) × (side ≤ 1) × (sideDegree o n s f side ≡ some d)
-      go (some x) y e h q = (1, x, omega arith, e)
-      go none (some y) e h q = (0, y, omega arith, h)
-      go none none e h q = let z : _≡_ {A = ℕ} 0 1 = cc in absurd (omega arith)
+      own : (side : ℕ) → side ≤ 1 → ¬ EqualRanks o n s f side k → sideDegree o n s f side ≡ some k
+      own side l h = side-first side k .1 (r .within, h, λ d i. r .before side d l i)
 
   -- the side is 1 exactly when side 1 has a degree and it is the reported one
   pub side-is-1 : (k : ℕ) → reported o n s f ≡ some k → FirstDiffers o n s f k

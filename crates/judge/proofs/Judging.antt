@@ -3,7 +3,7 @@
 --   first-given       the first degree whose ranks pass a test, of the ranks found and of the definition's
 --   first-reported    the first degree at which they differ is the reported one
 --   side-none         where the ranks of the set and of a side's part are equal, the part has no new point
---   judgement-found   what is found is the judgement
+--   judgement-found   what is found and reported is the judgement
 --   in-order          what is answered and left in an equal order
 --   refuses           a broken check
 --   accepts           no check is broken
@@ -32,7 +32,7 @@ use Rattle.gf2.specs.Vector.{Each}
 use Rattle.gf2.proofs.Each.{member-each}
 use Rattle.filter.specs.Sides.{Sides, pair, ofSide, bothSides}
 use Rattle.filter.specs.Filter.{Filter}
-use Rattle.filter.specs.Part.{part, bothParts}
+use Rattle.filter.specs.Part.{bothParts}
 use Rattle.filter.proofs.Filters.{few-taps}
 use Rattle.filter.proofs.Sides.{of-mapped}
 use Rattle.matrix.specs.Matrix.{rankOf}
@@ -51,7 +51,7 @@ use Rattle.immunity.proofs.Reported.{reports}
 use Rattle.judge.specs.declared.JudgeAnswer.{JudgeAnswer}
 use Rattle.judge.specs.declared.Report.{Report}
 use Rattle.judge.specs.declared.Finding.the-variants.{Refused, Judged}
-use Rattle.judge.specs.Judge.{judgeChecks, judgeOutcome, found, JudgeContract}
+use Rattle.judge.specs.Judge.{judgeChecks, judgeOutcome, judgementOf, found, JudgeContract}
 
 module _ (o : List ℕ) (n : ℕ) (s f : List ℕ) where
   -- the judgement
@@ -141,14 +141,15 @@ module _ {o : List ℕ} (g : Graded o) {n : ℕ} {s f : List ℕ} (filter : Filt
         let (j, is, _) = reports g small s f (points-inside n s (filter .set-formed)) a point in
         is ∙ ap some (sym (r j (first-reported o n s f small (ranks-judged o n s f p h) ∙ is)))
 
-    -- what is found is the judgement
-    pub judgement-found : {additions : ℕ} {ks : Sides (Option ℕ)} {w : Sides (List ℕ)}
-        → ks ≡ bothSides (λ i. first (λ d. partDiffers (getD ranks d noRanks) i) (below (n + 1)))
+    -- what is found and reported is the judgement
+    pub judgement-found : {additions : ℕ} {x y : SideDegree} {w : Sides (List ℕ)} {report : Report}
+        → report ≡ record { degree = k; side = byte (partDiffers (getD ranks k noRanks) 1); one = x; zero = y; additions = additions }
+        → degreesOf x y ≡ bothSides (λ i. first (λ d. partDiffers (getD ranks d noRanks) i) (below (n + 1)))
         → additions ≡ summed (λ d. additionsOf o n d (points s) ps) (below (n + 1))
         → w ≡ pair (mask (witnessAt o n k (points s) (ps .one))) (mask (witnessAt o n k (points s) (ps .zero)))
-        → _≡_ {A = Judgement} (record { ranks = ranks; degree = some k; side = byte (partDiffers (getD ranks k noRanks) 1); degrees = ks; additions = additions; witnesses = w }) (judged o n s f)
+        → judgementOf report ranks w ≡ judged o n s f
     unfolding judged
-    judgement-found a b c = judgement-by
+    judgement-found {w = w} is a b c = ap (λ y. judgementOf y ranks w) is ∙ judgement-by
         (ranks-judged o n s f p h)
         (sym is-reported)
         (side-judged o n s f small (ranks-judged o n s f p h) l is-reported)
@@ -184,15 +185,13 @@ module _ (o s f : List ℕ) (n : ℕ) (ws one zero : List ℕ) where
       }
 
   -- no check is broken
-  pub accepts : verdict checks ≡ verdicts.Passed → {ws′ : List ℕ} {w : Sides (List ℕ)} {ranks : List Ranks} {k side additions : ℕ} {x y : SideDegree} {r : Report} → ws′ ≡ zeros (length ws)
-      → r ≡ record { degree = k; side = side; one = x; zero = y; additions = additions }
-      → _≡_ {A = Judgement} (record { ranks = ranks; degree = some k; side = side; degrees = degreesOf x y; additions = additions; witnesses = w }) (judged o n s f)
-      → JudgeContract outcome ws ws′ (pair one zero) w (record { finding = Judged r; ranks = ranks })
+  pub accepts : verdict checks ≡ verdicts.Passed → {ws′ : List ℕ} {w : Sides (List ℕ)} {ranks : List Ranks} {r : Report} → ws′ ≡ zeros (length ws)
+      → judgementOf r ranks w ≡ judged o n s f → JudgeContract outcome ws ws′ (pair one zero) w (record { finding = Judged r; ranks = ranks })
   unfolding judgeOutcome
-  accepts p {w = w} {ranks} z is e =
+  accepts p z e =
       let passes : outcome ≡ accepted (judged o n s f) = verdict-passes checks _ p in
       record {
-        answers = ap (λ y. found (Judged y) ranks w) is ∙ ap accepted e ∙ sym passes;
+        answers = ap accepted e ∙ sym passes;
         no-ranks = ap (λ (j : Judgement). j .ranks) e ∙ sym (ap (λ y. leftBy y (replicate 10 noRanks) (λ j. j .ranks)) passes);
         leaves = z ∙ sym (ap (λ y. left y ws (zeros (length ws))) passes);
         leaves-witnesses = ap (λ (j : Judgement). j .witnesses) e ∙ sym (ap (λ y. leftBy y (pair one zero) (λ j. j .witnesses)) passes);

@@ -1,8 +1,10 @@
 -- What an acceptance of Judge shows.
 --   Passes ..           what checks that pass show
 --   judge-passed        checks that pass show it
---   judge-accepted      what Judge accepts is a filter whose set has a point, and is judged as the definition says
+--   accepted-filter     what is accepted is a filter whose set has a point, and is judged as the definition says
+--   judge-accepted      the same of what Judge accepts, lent the right lengths
 --   judge-accepts       such a filter is accepted
+--   found-judged        what is found and accepted is a report that states the judgement
 --   ranks-long          an accepted judgement has ranks at ten degrees
 --   degree-small        the degree of an accepted judgement is at most 9
 --   side-degree-small   so is each side's own
@@ -14,20 +16,25 @@ use Prim.Native.Nat.{ℕ, _≤_}
 use native.Mathlib.Omega.{arith}
 use lib.ListN.{length, length-map}
 use borrow.Author.Tests.{eqb-true, eq-eqb}
-use Rattle.refusal.specs.Outcome.{accepted}
+use Rattle.refusal.specs.Outcome.{Outcome, accepted, leftBy}
 use Rattle.refusal.specs.Verdict.{verdict}
 use Rattle.refusal.specs.declared.verdict.Verdict.the-variants.{Passed}
+use Rattle.refusal.proofs.Outcomes.{not-both}
 use Rattle.refusal.proofs.Verdicts.{passed-all, all-passed, verdict-passes, accepted-passes}
 use Rattle.cube.specs.NumberLists.{below, isEmpty}
 use Rattle.cube.specs.Mask.{points}
 use Rattle.cube.proofs.Masks.{length-from}
-use Rattle.filter.specs.Sides.{sideIf}
+use Rattle.filter.specs.Sides.{Sides, sideIf}
 use Rattle.filter.specs.Filter.{Filter}
 use Rattle.filter.proofs.Filters.{a-filter, some-point, passes, few-taps}
+use Rattle.immunity.specs.declared.Ranks.{Ranks}
 use Rattle.immunity.specs.Judgement.{Judgement, eitherDiffers, reported, sideDegree, ranksAt, judged}
 use Rattle.immunity.proofs.FirstDegree.{first-degree}
 use Rattle.immunity.proofs.SideDegrees.{side-first}
-use Rattle.judge.specs.Judge.{judgeChecks, judgeOutcome, JudgeAccepts}
+use Rattle.judge.specs.declared.Finding.{Finding}
+use Rattle.judge.specs.declared.Finding.the-variants.{Refused, Judged}
+use Rattle.judge.specs.declared.Report.{Report}
+use Rattle.judge.specs.Judge.{judgeChecks, judgeOutcome, judgementOf, found, JudgeAccepts}
 
 -- what checks that pass show
 pub record Passes (n : ℕ) (s f : List ℕ) (m p q : ℕ) : Type 0 where
@@ -49,14 +56,19 @@ judge-passed n s f m p q e =
       zero-long = eqb-true q 512 zero;
     }
 
+-- what is accepted of any lengths is a filter whose set has a point, and is judged as the definition says
+pub accepted-filter : (o s f : List ℕ) (n m p q : ℕ) (j : Judgement) → judgeOutcome o s f n m p q ≡ accepted j
+    → Filter n s f × (isEmpty (points s) ≡ false) × (judged o n s f ≡ j)
+unfolding judgeOutcome
+accepted-filter o s f n m p q j e =
+    let (holds, same) = accepted-passes (judgeChecks s f n m p q) (accepted (judged o n s f)) j e in
+    let shown = judge-passed n s f m p q holds in
+    (shown .filter, shown .some, cc same)
+
 module _ (o : List ℕ) (n : ℕ) (s f : List ℕ) where
-  -- what Judge accepts is a filter whose set has a point, and is judged as the definition says
+  -- so is what Judge accepts, lent the right lengths
   pub judge-accepted : (j : Judgement) → JudgeAccepts o n s f j → Filter n s f × (isEmpty (points s) ≡ false) × (judged o n s f ≡ j)
-  unfolding judgeOutcome
-  judge-accepted j e =
-      let (holds, same) = accepted-passes (judgeChecks s f n 8192 512 512) (accepted (judged o n s f)) j e in
-      let shown = judge-passed n s f 8192 512 512 holds in
-      (shown .filter, shown .some, cc same)
+  judge-accepted j e = accepted-filter o s f n 8192 512 512 j e
 
   -- such a filter is accepted
   pub judge-accepts : Filter n s f → isEmpty (points s) ≡ false → JudgeAccepts o n s f (judged o n s f)
@@ -65,33 +77,36 @@ module _ (o : List ℕ) (n : ℕ) (s f : List ℕ) where
       verdict-passes (judgeChecks s f n 8192 512 512) (accepted (judged o n s f)) (all-passed (judgeChecks s f n 8192 512 512)
       (eq-eqb (length s) 512 (h .set-long), (eq-eqb (length f) 512 (h .table-long), (refl, (refl, (refl, (h .tapped, passes n s f h point)))))))
 
+-- what is found and accepted is a report that states the judgement
+pub found-judged : (x : Finding) (ranks : List Ranks) (w : Sides (List ℕ)) (j : Judgement) → found x ranks w ≡ accepted j
+    → (r : Report) × (x ≡ Judged r) × (judgementOf r ranks w ≡ j)
+found-judged (Refused y) ranks w j e = absurd (not-both e)
+found-judged (Judged r) ranks w j e = (r, refl, ap (λ (o : Outcome Judgement). leftBy o j (λ i. i)) e)
+
 module _ (o s f : List ℕ) (n m p q : ℕ) (j : Judgement) (e : judgeOutcome o s f n m p q ≡ accepted j) where
-  -- what is accepted is the judgement of a filter
-  accepted-filter : Filter n s f × (judged o n s f ≡ j)
-  unfolding judgeOutcome
-  accepted-filter =
-      let (holds, same) = accepted-passes (judgeChecks s f n m p q) (accepted (judged o n s f)) j e in
-      (judge-passed n s f m p q holds .filter, cc same)
+  -- the same of this judgement
+  shows : Filter n s f × (isEmpty (points s) ≡ false) × (judged o n s f ≡ j)
+  shows = accepted-filter o s f n m p q j e
 
   -- it has ranks at ten degrees
   pub ranks-long : length (j .ranks) ≡ 10
   unfolding judged
-  ranks-long = sym (ap (λ (x : Judgement). length (x .ranks)) (accepted-filter .1)) ∙ length-map (below 10) (ranksAt o n s f) ∙ length-from 0 10
+  ranks-long = sym (ap (λ (x : Judgement). length (x .ranks)) (shows .2)) ∙ length-map (below 10) (ranksAt o n s f) ∙ length-from 0 10
 
   -- its degree is at most 9
   pub degree-small : (k : ℕ) → j .degree ≡ some k → k ≤ 9
   unfolding judged reported
   degree-small k h =
-      let (filter, is) = accepted-filter in
+      let (filter, _, is) = shows in
       let first : reported o n s f ≡ some k = ap (λ (x : Judgement). x .degree) is ∙ h in
       omega (arith, few-taps n s f filter, first-degree (eitherDiffers o n s f) n k .0 first .within)
 
   -- so is a side's own
   low : (side d : ℕ) → sideDegree o n s f side ≡ some d → d ≤ 9
-  low side d is = omega (arith, few-taps n s f (accepted-filter .0), side-first o n s f side d .0 is .0)
+  low side d is = omega (arith, few-taps n s f (shows .0), side-first o n s f side d .0 is .0)
 
   -- that of either side, as the judgement has it
   pub side-degree-small : (b : Bool) (d : ℕ) → sideIf b (j .degrees) ≡ some d → d ≤ 9
   unfolding judged
-  side-degree-small true d h = low 1 d (ap (λ (x : Judgement). x .degrees .one) (accepted-filter .1) ∙ h)
-  side-degree-small false d h = low 0 d (ap (λ (x : Judgement). x .degrees .zero) (accepted-filter .1) ∙ h)
+  side-degree-small true d h = low 1 d (ap (λ (x : Judgement). x .degrees .one) (shows .2) ∙ h)
+  side-degree-small false d h = low 0 d (ap (λ (x : Judgement). x .degrees .zero) (shows .2) ∙ h)

@@ -1,6 +1,7 @@
 -- Judge: docs/SPECIFICATION.md, 'Judge'.
 --   judgeChecks s f n m p q     the checks of Judge, lent the set s, the table f, a workspace of m numbers and witness buffers of p and q bytes
 --   judgeOutcome o s f n ..     what Judge answers and leaves in the order o: the first refusal, or the judgement of the set and the table
+--   judgementOf r ranks w       the judgement that a report states, with the ranks and the witness buffers w
 --   found ..                    the number or the values of what was found
 --   outcomeOf r w               what an answer, with the witness buffers w at exit, states
 --   JudgeContract o ..          the contract of Judge: it answers the outcome o, and leaves what that says
@@ -20,6 +21,7 @@ use Rattle.immunity.specs.Ranks.{noRanks}
 use Rattle.immunity.specs.SideDegree.{degreesOf}
 use Rattle.immunity.specs.Judgement.{Judgement, judged}
 use Rattle.judge.specs.declared.JudgeAnswer.{JudgeAnswer}
+use Rattle.judge.specs.declared.Report.{Report}
 use Rattle.judge.specs.declared.Finding.{Finding}
 use Rattle.judge.specs.declared.Finding.the-variants.{Refused, Judged}
 
@@ -31,10 +33,21 @@ judgeChecks s f n m p q = filterLengths s f ++ lengthIs m 8192 ++ lengthIs p 512
 unfoldable pub judgeOutcome : List ℕ → List ℕ → List ℕ → ℕ → ℕ → ℕ → ℕ → Outcome Judgement
 judgeOutcome o s f n m p q = checked (judgeChecks s f n m p q) (accepted (judged o n s f))
 
+-- the judgement that a report states, with the ranks and the witness buffers
+abbrev pub judgementOf : Report → List Ranks → Sides (List ℕ) → Judgement
+judgementOf r ranks w = record {
+  ranks = ranks;
+  degree = some (r .degree);
+  side = r .side;
+  degrees = degreesOf (r .one) (r .zero);
+  additions = r .additions;
+  witnesses = w;
+}
+
 -- the number or the values of what was found
 abbrev pub found : Finding → List Ranks → Sides (List ℕ) → Outcome Judgement
 found (Refused x) ranks w = refused (numberOf x)
-found (Judged r) ranks w = accepted (record { ranks = ranks; degree = some (r .degree); side = r .side; degrees = degreesOf (r .one) (r .zero); additions = r .additions; witnesses = w })
+found (Judged r) ranks w = accepted (judgementOf r ranks w)
 
 -- the same of an answer
 abbrev pub outcomeOf : JudgeAnswer → Sides (List ℕ) → Outcome Judgement

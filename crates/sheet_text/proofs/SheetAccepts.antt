@@ -20,14 +20,13 @@ use Rattle.order.proofs.BuiltIn.{graded-is-graded}
 use Rattle.filter.specs.Sides.{Sides}
 use Rattle.filter.specs.Filter.{Filter}
 use Rattle.filter.proofs.Filters.{few-taps}
-use Rattle.immunity.specs.SideDegree.{degreesOf}
-use Rattle.immunity.specs.Judgement.{Judgement, reported, judged}
+use Rattle.immunity.specs.Judgement.{reported, judged}
 use Rattle.immunity.specs.Certificate.{certificate}
 use Rattle.immunity.proofs.Reported.{FirstDiffers, reports}
 use Rattle.judge.specs.declared.JudgeAnswer.{JudgeAnswer}
 use Rattle.judge.specs.declared.Report.{Report}
 use Rattle.judge.specs.declared.Finding.the-variants.{Refused, Judged}
-use Rattle.judge.specs.Judge.{judgeOutcome, found, JudgeContract, JudgeAccepts}
+use Rattle.judge.specs.Judge.{judgeOutcome, judgementOf, found, JudgeContract, JudgeAccepts}
 use Rattle.judge.proofs.Passed.{judge-accepted}
 use Rattle.certify.specs.declared.CertifyAnswer.{CertifyAnswer}
 use Rattle.certify.specs.Certify.{certifyOutcome, CertifyContract, CertifyAccepts}
@@ -47,7 +46,7 @@ module _ (n : ℕ) (s f : List ℕ) (a : JudgeAccepts graded n s f (judged grade
 
       -- the judgement
       pub judge-found : (x : Report) → r .finding ≡ Judged x
-          → _≡_ {A = Judgement} (record { ranks = r .ranks; degree = some (x .degree); side = x .side; degrees = degreesOf (x .one) (x .zero); additions = x .additions; witnesses = w′ }) (judged graded n s f)
+          → judgementOf x (r .ranks) w′ ≡ judged graded n s f
       judge-found x e = value-of _ (judged graded n s f) (ap (λ y. found y (r .ranks) w′) (sym e) ∙ answered)
 
       -- no refusal

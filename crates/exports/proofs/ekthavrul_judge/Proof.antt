@@ -8,26 +8,18 @@ use mathlib.Core.Option.{none, some}
 use Prim.Native.Nat.{ℕ, _≤_}
 use lib.ListN.{length, getD}
 use Rattle.refusal.specs.Outcome.{Outcome, accepted, leftBy}
-use Rattle.refusal.proofs.Outcomes.{not-both}
 use Rattle.filter.specs.Sides.{Sides, sideIf}
 use Rattle.immunity.specs.Judgement.{Judgement}
 use Rattle.judge.specs.declared.JudgeAnswer.{JudgeAnswer}
 use Rattle.judge.specs.declared.Finding.{Finding}
-use Rattle.judge.specs.declared.Finding.the-variants.{Refused, Judged}
-use Rattle.immunity.specs.declared.Ranks.{Ranks}
 use Rattle.judge.specs.Judge.{found, JudgeContract}
-use Rattle.judge.proofs.Passed.{ranks-long, degree-small, side-degree-small}
+use Rattle.judge.proofs.Passed.{found-judged, ranks-long, degree-small, side-degree-small}
 use Rattle.exports.specs.Status.{statusOf}
 use Rattle.exports.specs.Report.{reportOf}
 use Rattle.exports.specs.Exported.{JudgeStatus}
 use Rattle.exports.proofs.Flat.{degrees-at, number-most, number-none}
 use Rattle.exports.proofs.ekthavrul_judge.Statement.{statement}
 use Rattle.exports.proofs.ekthavrul_judge.Tie as tie
-
--- what is found has a degree
-found-degree : (x : Finding) (rs : List Ranks) (w : Sides (List ℕ)) (j : Judgement) → found x rs w ≡ accepted j → (k : ℕ) × (j .degree ≡ some k)
-found-degree (Refused y) rs w j e = absurd (not-both e)
-found-degree (Judged y) rs w j e = (y .degree, sym (ap (λ (z : Outcome Judgement). leftBy z none (λ i. i .degree)) e))
 
 -- the sides' own degrees in a report
 none-named : (j : Judgement) → length (j .ranks) ≡ 10 → ((b : Bool) (d : ℕ) → sideIf b (j .degrees) ≡ some d → d ≤ 9)
@@ -51,7 +43,7 @@ module _ {o : Outcome Judgement} {ws ws′ : List ℕ} {w w′ : Sides (List ℕ
     workspace = h .leaves;
     witnesses = h .leaves-witnesses;
     report = report ∙ ap (λ y. leftBy y ns reportOf) states;
-    reported = λ j a. found-degree x (answer .ranks) w′ j (states ∙ a);
+    reported = λ j a. let (y, _, same) = found-judged x (answer .ranks) w′ j (states ∙ a) in (y .degree, sym (ap (λ (i : Judgement). i .degree) same));
     none-named = λ j a. none-named j (long j a) (small j a) (report ∙ ap (λ y. leftBy y ns reportOf) (states ∙ a));
   }
 

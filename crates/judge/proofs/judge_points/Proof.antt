@@ -157,9 +157,9 @@ returns c =
     let r = ranks-of k in
     let s = start-by r in
     let a = s .args in
-    accepts (a .order .now) (a .set .now) (a .table .now) (a .n) (a .workspace .now) (a .one .now) (a .zero .now) (s .pre .0) (e .clear .ensures ∙ ap zeros (kept w)) (c .report-found .ensures)
+    accepts (a .order .now) (a .set .now) (a .table .now) (a .n) (a .workspace .now) (a .one .now) (a .zero .now) (s .pre .0) (e .clear .ensures ∙ ap zeros (kept w))
     (judgement-found (s .pre .1) (shown s .filter) (shown s .some) (two-parts (masks-by r)) (r .all-ranks .ensures .0) (k .found-degrees .ensures .1 .1) (k .found-degrees .ensures .1 .0)
-    (k .found-degrees .ensures .0) (r .all-ranks .ensures .1 .0) (ap₂ pair (w .write-witnesses .ensures .0) (w .write-witnesses .ensures .1)))
+    (c .report-found .ensures) (k .found-degrees .ensures .0) (r .all-ranks .ensures .1 .0) (ap₂ pair (w .write-witnesses .ensures .0) (w .write-witnesses .ensures .1)))
 
 pub judge-points-spec : {M : Type 1} → statement M
 judge-points-spec =

@@ -1,7 +1,6 @@
 -- What Judge answers is the judgement (judge-found), never a refusal; the lines are written one behind the other (appends-then), each within its room.
 use borrow.Author.Needs.{needs}
 use mathlib.Core.Path.{_≡_, sym, ap, _∙_}
-use mathlib.Core.Option.{some}
 use Prim.Native.Nat.{ℕ, _≤_, zero-le}
 use native.Mathlib.Omega.{arith}
 use lib.ListN.{length, length-replicate}
@@ -10,8 +9,8 @@ use Rattle.order.specs.BuiltIn.{graded}
 use Rattle.filter.specs.Sides.{pair}
 use Rattle.filter.specs.Filter.{Filter}
 use Rattle.filter.proofs.Filters.{few-taps}
-use Rattle.immunity.specs.SideDegree.{degreesOf}
 use Rattle.immunity.specs.Judgement.{Judgement, judged}
+use Rattle.judge.specs.Judge.{judgementOf}
 use Rattle.judge.proofs.Passed.{judge-accepted}
 use Rattle.buffer.specs.Appends.{Appends}
 use Rattle.buffer.proofs.Appending.{appends-then, appends-same}
@@ -31,7 +30,7 @@ small c = few-taps _ _ _ (filter c)
 
 -- what Judge found is the judgement
 judgement : (c : tie.After-finding2) → let j = c .before .before .before .before .before .before in let s = j .before .before .before .before .before .before .before in let v = c .finding2 .given .0 .0 in
-    record { ranks = j .judge .result .ranks; degree = some (v .degree); side = v .side; degrees = degreesOf (v .one) (v .zero); additions = v .additions; witnesses = pair (j .judge .last .1 .1 .1 .1 .0) (j .judge .last .1 .1 .1 .1 .1 .0) }
+    judgementOf v (j .judge .result .ranks) (pair (j .judge .last .1 .1 .1 .1 .0) (j .judge .last .1 .1 .1 .1 .1 .0))
     ≡ judged graded (s .args .n) (s .args .set .now) (s .args .table .now)
 judgement c =
     let j = c .before .before .before .before .before .before in
