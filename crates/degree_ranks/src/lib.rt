@@ -1,4 +1,4 @@
-// The ranks of a set and of its two parts at each degree, and the degrees at which they differ first:
+// The ranks of a set and of its two parts at each degree, the degrees at which they differ first, and the mark:
 // docs/SPECIFICATION.md, 'Judge'.
 ghost use mathlib.Core.Path.{_≡_};
 ghost use mathlib.Core.List.{map};
@@ -12,6 +12,7 @@ ghost use Rattle.packed.specs.Packed.{unpacked};
 ghost use Rattle.gf2.specs.Prefix.{AtMost};
 ghost use Rattle.filter.specs.Sides.{pair, bothSides};
 ghost use Rattle.immunity.specs.First.{first};
+ghost use Rattle.immunity.specs.Mark.{twiceExceeds, markIn};
 ghost use Rattle.immunity.specs.SideDegree.{degreeOf, degreesOf};
 ghost use Rattle.immunity.specs.Judgement.{summed};
 ghost use Rattle.immunity.specs.Ranks.{noRanks, ranksIn, ranksUpTo, additionsOf, partDiffers, differ};
@@ -40,9 +41,10 @@ pub struct FoundRanks {
     pub additions: u32,
 }
 
-// The reported degree, and each side's own.
+// The reported degree, the mark, and each side's own degree.
 pub struct FoundDegrees {
     pub reported: usize,
+    pub mark: usize,
     pub one: SideDegree,
     pub zero: SideDegree,
 }
@@ -178,18 +180,44 @@ fn smaller_degree(one: SideDegree, zero: SideDegree, n: usize) -> usize
     if of_one < of_zero { of_one } else { of_zero }
 }
 
-// The degrees that the ranks show; public for Judge alone. The reported one is the first at which the rank of a part is
+// Whether twice the rank exceeds the number of points.
+fn twice_exceeds(rank: u16, points: u16) -> bool
+    ensures { λ b. ⌜ b ≡ twiceExceeds rank points ⌝ }
+{
+    2 * (rank as u32) > points as u32
+}
+
+// The mark, where the rank of the set at `n` is its number of points: the first degree at which twice the rank of the set
+// exceeds that number. Where no degree below `n` is the mark, `n` is answered.
+fn mark(ranks: [Ranks; 10], n: usize) -> usize
+    requires { ⌜ n ≤ 9 ⌝ }
+    ensures { λ r. ⌜ r ≡ Option·getD (markIn ranks n) n ⌝ }
+{
+    let points = ranks[n].set;
+    let mut d: usize = 0;
+    while d < n {
+        if twice_exceeds(ranks[d].set, points) {
+            return d;
+        }
+        d += 1;
+    }
+    n
+}
+
+// The degrees and the mark that the ranks show; public for Judge alone. The reported one is the first at which the rank of a part is
 // not that of the set, where there is one.
 pub fn found_degrees(ranks: [Ranks; 10], n: usize) -> FoundDegrees
     requires { ⌜ n ≤ 9 ⌝ }
     ensures { λ r. ⌜ degreesOf (r .one) (r .zero) ≡ bothSides (λ side. first (λ d. partDiffers (getD ranks d noRanks) side) (below (n + 1))) ⌝ }
     ensures { λ r. ⌜ ((k : ℕ) → first (λ d. differ (getD ranks d noRanks)) (below (n + 1)) ≡ some k → r .reported ≡ k) ⌝ }
     ensures { λ r. ⌜ r .reported ≤ n ⌝ }
+    ensures { λ r. ⌜ r .mark ≡ Option·getD (markIn ranks n) n ⌝ }
 {
     let one = side_degree(ranks, n, 1);
     let zero = side_degree(ranks, n, 0);
     FoundDegrees {
         reported: smaller_degree(one, zero, n),
+        mark: mark(ranks, n),
         one,
         zero,
     }

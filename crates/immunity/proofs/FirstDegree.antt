@@ -3,6 +3,7 @@
 --   FirstUpTo t n d    d is the first degree up to n that passes t
 --   first-degree       a degree is given as first exactly when it is the first
 --   first-none         none is given exactly when none passes
+--   first-last         where none below n passes, n is given, or counts for none
 --   first-or           the first that passes one of two tests is the smaller of the firsts
 --   smaller-counted    where one exists, the smaller is found by counting n for none
 use mathlib.Core.Path.{_≡_, refl, sym, ap, _∙_}
@@ -75,6 +76,14 @@ module _ (t : ℕ → Bool) (n : ℕ) where
       back : Says t (below (n + 1)) (first t (below (n + 1))) → ((d : ℕ) → d ≤ n → t d ≡ false) → first t (below (n + 1)) ≡ none
       back (inl h) f = h .0
       back (inr r) f = absurd (false≢true (sym (f (r .place) (degree-below n (r .place) .0 (r .member))) ∙ r .passes))
+
+  -- where none below n passes, n is given, or counts for none
+  pub first-last : ((d : ℕ) → d < n → t d ≡ false) → Option·getD (first t (below (n + 1))) n ≡ n
+  first-last h = go (t n) refl
+    where
+      go : (b : Bool) → t n ≡ b → Option·getD (first t (below (n + 1))) n ≡ n
+      go true e = ap (λ x. Option·getD x n) (is-given n (record { within = omega arith; passes = e; before = h }))
+      go false e = ap (λ x. Option·getD x n) (first-none .1 (λ d l. elim (decLt d n) [ yes i ↦ h d i | no i ↦ (let q : d ≡ n = omega arith in ap t q ∙ e) ]))
 
 -- a number less than each that exists is the smaller
 smaller-left : (x : ℕ) (y : Option ℕ) → ((z : ℕ) → y ≡ some z → x < z) → some x ≡ smaller (some x) y

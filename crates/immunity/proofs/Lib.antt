@@ -1,4 +1,4 @@
--- Laws of judgements, witnesses and certificates.
+-- Laws of judgements, the mark, witnesses and certificates.
 pub mod CertificateBits
 pub mod Certificates
 pub mod CertificateNumbers
@@ -6,6 +6,7 @@ pub mod Equal
 pub mod First
 pub mod FirstDegree
 pub mod Given
+pub mod Mark
 pub mod NewPoint
 pub mod PartPoints
 pub mod Reported

@@ -28,6 +28,7 @@ use Rattle.matrix.specs.Matrix.{rankOf}
 use Rattle.immunity.specs.declared.Ranks.{Ranks}
 use Rattle.immunity.specs.Ranks.{noRanks, ranksIf, parts, ranksUpTo, additionsOf}
 use Rattle.immunity.specs.First.{first}
+use Rattle.immunity.specs.Mark.{markOf}
 use Rattle.immunity.specs.Witness.{witnessAt}
 
 -- the set and the part of the side have the same rank at degree d
@@ -81,6 +82,7 @@ witnessBytes o n s f (some k) side = mask (witnessAt o n k (points s) (part side
 -- what Judge answers, and leaves in the two witness buffers
 pub record Judgement : Type 0 where
   pub ranks : List Ranks
+  pub mark : Option ℕ
   pub degree : Option ℕ
   pub side : ℕ
   pub degrees : Sides (Option ℕ)
@@ -89,11 +91,12 @@ pub record Judgement : Type 0 where
 
 -- the judgement of a set and a table
 unfoldable pub judged : List ℕ → ℕ → List ℕ → List ℕ → Judgement
-unfolding reported sideDegree ranksAt sideAt additionsAt summed witnessBytes
+unfolding markOf reported sideDegree ranksAt sideAt additionsAt summed witnessBytes
 judged o n s f =
     let k : Option ℕ = reported o n s f in
     record {
       ranks = map (ranksAt o n s f) (below 10);
+      mark = markOf o n s;
       degree = k;
       side = sideAt o n s f k;
       degrees = bothSides (sideDegree o n s f);

@@ -1,8 +1,9 @@
--- Annihilators, ranks that differ, each side's own degree, witnesses and certificates.
+-- Annihilators, ranks that differ, each side's own degree, the mark, witnesses and certificates.
 pub mod Annihilator
 pub mod Certificate
 pub mod First
 pub mod Judgement
+pub mod Mark
 pub mod Ranks
 pub mod SideDegree
 pub mod Witness

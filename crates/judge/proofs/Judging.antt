@@ -10,7 +10,7 @@
 use mathlib.Core.Path.{_≡_, sym, ap, ap₂, _∙_, subst}
 use mathlib.Core.Bool.{Bool, false}
 use mathlib.Core.List.{List, map, List·Memᴰ}
-use mathlib.Core.Option.{Option, none, some}
+use mathlib.Core.Option.{Option, none, some, Option·getD}
 use Prim.Native.Nat.{ℕ, _+_, _≤_}
 use native.Mathlib.Omega.{arith}
 use borrow.Author.Tests.{le-leb}
@@ -21,7 +21,8 @@ use Rattle.refusal.specs.Outcome.{Outcome, refused, accepted, Check, left, left
 use Rattle.refusal.specs.Verdict.{verdict}
 use Rattle.refusal.specs.declared.verdict.Verdict.the-variants as verdicts
 use Rattle.refusal.proofs.Verdicts.{verdict-refuses, verdict-passes}
-use Rattle.cube.specs.NumberLists.{below, isEmpty}
+use Rattle.cube.specs.NumberLists.{below, isEmpty, Inside}
+use Rattle.cube.specs.Cube.{size}
 use Rattle.cube.specs.Mask.{points, byte, mask}
 use Rattle.cube.proofs.Listed.{some-member}
 use Rattle.cube.proofs.Masks.{value-at, points-inside}
@@ -36,16 +37,19 @@ use Rattle.filter.specs.Part.{bothParts}
 use Rattle.filter.proofs.Filters.{few-taps}
 use Rattle.filter.proofs.Sides.{of-mapped}
 use Rattle.matrix.specs.Matrix.{rankOf}
+use Rattle.matrix.proofs.FullRank.{rank-full}
 use Rattle.immunity.specs.declared.Ranks.{Ranks}
 use Rattle.immunity.specs.declared.SideDegree.{SideDegree}
 use Rattle.immunity.specs.First.{first}
+use Rattle.immunity.specs.Mark.{twiceExceeds, markOf, markIn}
 use Rattle.immunity.specs.Witness.{newPoint, witnessAt}
 use Rattle.immunity.specs.Ranks.{noRanks, ranksIf, parts, ranksOf, ranksUpTo, additionsOf, partDiffers, differ}
 use Rattle.immunity.specs.SideDegree.{degreesOf}
 use Rattle.immunity.specs.Judgement.{Judgement, differs, reported, sideDegree, ranksAt, sideAt, additionsAt, summed, witnessBytes, judged}
 use Rattle.immunity.proofs.First.{first-same}
 use Rattle.immunity.proofs.FirstDegree.{degree-below}
-use Rattle.immunity.proofs.Given.{ranks-given}
+use Rattle.immunity.proofs.Given.{ranks-given, set-given}
+use Rattle.immunity.proofs.Mark.{mark-exists}
 use Rattle.immunity.proofs.NewPoint.{new-point-none}
 use Rattle.immunity.proofs.Reported.{reports}
 use Rattle.judge.specs.declared.JudgeAnswer.{JudgeAnswer}
@@ -122,9 +126,10 @@ module _ (o : List ℕ) (n : ℕ) (ss : List ℕ) (ps : Sides (List ℕ)) (risin
         (sym (ap (λ (r : Ranks). r .set) ranks-at) ∙ e ∙ ap (λ (r : Ranks). ofSide side (parts r)) ranks-at ∙ of-mapped (rankOf o n k) ps side)
 
 -- judgements are equal by parts
-judgement-by : {xs ys : List Ranks} {k j : Option ℕ} {a b c d : ℕ} {ks js : Sides (Option ℕ)} {v w : Sides (List ℕ)} → xs ≡ ys → k ≡ j → a ≡ b → ks ≡ js → c ≡ d → v ≡ w
-    → _≡_ {A = Judgement} (record { ranks = xs; degree = k; side = a; degrees = ks; additions = c; witnesses = v }) (record { ranks = ys; degree = j; side = b; degrees = js; additions = d; witnesses = w })
-judgement-by e₁ e₂ e₃ e₄ e₅ e₆ = cc
+judgement-by : {xs ys : List Ranks} {m i k j : Option ℕ} {a b c d : ℕ} {ks js : Sides (Option ℕ)} {v w : Sides (List ℕ)} → xs ≡ ys → m ≡ i → k ≡ j → a ≡ b → ks ≡ js → c ≡ d → v ≡ w
+    → _≡_ {A = Judgement} (record { ranks = xs; mark = m; degree = k; side = a; degrees = ks; additions = c; witnesses = v })
+    (record { ranks = ys; mark = i; degree = j; side = b; degrees = js; additions = d; witnesses = w })
+judgement-by e₁ e₂ e₃ e₄ e₅ e₆ e₇ = cc
 
 module _ {o : List ℕ} (g : Graded o) {n : ℕ} {s f : List ℕ} (filter : Filter n s f) (some-point : isEmpty (points s) ≡ false) {ps : Sides (List ℕ)} (p : ps ≡ bothParts s f)
     {ranks : List Ranks} (h : ranks ≡ map (ranksUpTo o n (points s) ps) (below 10))
@@ -134,28 +139,47 @@ module _ {o : List ℕ} (g : Graded o) {n : ℕ} {s f : List ℕ} (filter : Filt
     small : n ≤ 9
     small = few-taps n s f filter
 
+    -- the points of the set are points of n taps
+    inside : Inside (size n) (points s)
+    inside = points-inside n s (filter .set-formed)
+
     -- a degree is reported, and it is the one found
     is-reported : reported o n s f ≡ some k
     is-reported =
         let (a, point) = some-member (points s) some-point in
-        let (j, is, _) = reports g small s f (points-inside n s (filter .set-formed)) a point in
+        let (j, is, _) = reports g small s f inside a point in
         is ∙ ap some (sym (r j (first-reported o n s f small (ranks-judged o n s f p h) ∙ is)))
 
+    -- what the ranks show is the mark: at degree n the rank of the set is the number of its points
+    mark-judged : markIn ranks n ≡ markOf o n s
+    unfolding markOf
+    mark-judged =
+        let given : ranks ≡ judged o n s f .ranks = ranks-judged o n s f p h in
+        let count : getD ranks n noRanks .set ≡ length (points s) = ap (λ x. getD x n noRanks .set) given ∙ set-given o n s f n (omega arith) small ∙ rank-full g small s inside in
+        first-given o n s f small given (λ r. twiceExceeds (r .set) (getD ranks n noRanks .set))
+        ∙ ap (λ c. first (λ d. twiceExceeds (rankOf o n d (points s)) c) (below (n + 1))) count
+
+    -- there is a mark, and it is the one found
+    is-mark : {m : ℕ} → m ≡ Option·getD (markIn ranks n) n → markOf o n s ≡ some m
+    is-mark e = let (j, is) = mark-exists g small s inside some-point in is ∙ ap some (sym (e ∙ ap (λ x. Option·getD x n) (mark-judged ∙ is)))
+
     -- what is found and reported is the judgement
-    pub judgement-found : {additions : ℕ} {x y : SideDegree} {w : Sides (List ℕ)} {report : Report}
-        → report ≡ record { degree = k; side = byte (partDiffers (getD ranks k noRanks) 1); one = x; zero = y; additions = additions }
+    pub judgement-found : {m additions : ℕ} {x y : SideDegree} {w : Sides (List ℕ)} {report : Report}
+        → report ≡ record { mark = m; degree = k; side = byte (partDiffers (getD ranks k noRanks) 1); one = x; zero = y; additions = additions }
+        → m ≡ Option·getD (markIn ranks n) n
         → degreesOf x y ≡ bothSides (λ i. first (λ d. partDiffers (getD ranks d noRanks) i) (below (n + 1)))
         → additions ≡ summed (λ d. additionsOf o n d (points s) ps) (below (n + 1))
         → w ≡ pair (mask (witnessAt o n k (points s) (ps .one))) (mask (witnessAt o n k (points s) (ps .zero)))
         → judgementOf report ranks w ≡ judged o n s f
     unfolding judged
-    judgement-found {w = w} is a b c = ap (λ y. judgementOf y ranks w) is ∙ judgement-by
+    judgement-found {w = w} is a b c e = ap (λ y. judgementOf y ranks w) is ∙ judgement-by
         (ranks-judged o n s f p h)
+        (sym (is-mark a))
         (sym is-reported)
         (side-judged o n s f small (ranks-judged o n s f p h) l is-reported)
-        (degrees-judged o n s f small (ranks-judged o n s f p h) a)
-        (additions-judged o n s f p b)
-        (bytes-judged o n s f p is-reported c)
+        (degrees-judged o n s f small (ranks-judged o n s f p h) b)
+        (additions-judged o n s f p c)
+        (bytes-judged o n s f p is-reported e)
 
 module _ (o s f : List ℕ) (n : ℕ) (ws one zero : List ℕ) where
   -- the checks of what is lent

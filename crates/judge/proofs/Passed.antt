@@ -8,6 +8,7 @@
 --   ranks-long          an accepted judgement has ranks at ten degrees
 --   degree-small        the degree of an accepted judgement is at most 9
 --   side-degree-small   so is each side's own
+--   mark-small          and the mark
 use mathlib.Core.Path.{_≡_, refl, sym, ap, _∙_}
 use mathlib.Core.Bool.{Bool, true, false}
 use mathlib.Core.List.{List}
@@ -30,6 +31,7 @@ use Rattle.filter.proofs.Filters.{a-filter, some-point, passes, few-taps}
 use Rattle.immunity.specs.declared.Ranks.{Ranks}
 use Rattle.immunity.specs.Judgement.{Judgement, eitherDiffers, reported, sideDegree, ranksAt, judged}
 use Rattle.immunity.proofs.FirstDegree.{first-degree}
+use Rattle.immunity.proofs.Mark.{mark-first}
 use Rattle.immunity.proofs.SideDegrees.{side-first}
 use Rattle.judge.specs.declared.Finding.{Finding}
 use Rattle.judge.specs.declared.Finding.the-variants.{Refused, Judged}
@@ -110,3 +112,10 @@ module _ (o s f : List ℕ) (n m p q : ℕ) (j : Judgement) (e : judgeOutcome o 
   unfolding judged
   side-degree-small true d h = low 1 d (ap (λ (x : Judgement). x .degrees .one) (shows .2) ∙ h)
   side-degree-small false d h = low 0 d (ap (λ (x : Judgement). x .degrees .zero) (shows .2) ∙ h)
+
+  -- so is the mark
+  pub mark-small : (m : ℕ) → j .mark ≡ some m → m ≤ 9
+  unfolding judged
+  mark-small m h =
+      let (filter, _, is) = shows in
+      omega (arith, few-taps n s f filter, mark-first o n s m .0 (ap (λ (x : Judgement). x .mark) is ∙ h) .0)

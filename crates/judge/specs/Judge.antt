@@ -37,6 +37,7 @@ judgeOutcome o s f n m p q = checked (judgeChecks s f n m p q) (accepted (judged
 abbrev pub judgementOf : Report → List Ranks → Sides (List ℕ) → Judgement
 judgementOf r ranks w = record {
   ranks = ranks;
+  mark = some (r .mark);
   degree = some (r .degree);
   side = r .side;
   degrees = degreesOf (r .one) (r .zero);

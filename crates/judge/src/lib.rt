@@ -1,5 +1,5 @@
-// Judge: docs/SPECIFICATION.md, 'Judge'. The ranks of a set and of its two parts at each degree, the reported degree,
-// each side's own, and the witnesses.
+// Judge: docs/SPECIFICATION.md, 'Judge'. The ranks of a set and of its two parts at each degree, the mark, the reported
+// degree, each side's own, and the witnesses.
 ghost use mathlib.Core.Path.{_≡_};
 ghost use mathlib.Core.Option.{none};
 ghost use Prim.Native.Nat.{_≤_};
@@ -39,6 +39,7 @@ use witness::write_side;
 
 // What Judge reports beside the ranks; `one` is side 1's own degree, `zero` side 0's.
 pub struct Report {
+    pub mark: usize,
     pub degree: usize,
     pub side: u8,
     pub one: SideDegree,
@@ -58,8 +59,9 @@ pub struct JudgeAnswer {
     pub ranks: [Ranks; 10],
 }
 
-// The ranks of the set and its parts at each degree, the first degree at which a part's rank differs from the set's, each
-// side's own such degree, and the witness of each side that differs at the first; for a set and a table of `n` taps.
+// The ranks of the set and its parts at each degree, the mark, the first degree at which a part's rank differs from the
+// set's, each side's own such degree, and the witness of each side that differs at the first; for a set and a table of
+// `n` taps.
 pub fn judge(
     set: &[u8],
     table: &[u8],
@@ -152,13 +154,14 @@ fn judge_points(
     JudgeAnswer { finding, ranks }
 }
 
-// The report: the degrees found, the side by the ranks `here` at the reported one, and the additions.
+// The report: the mark and the degrees found, the side by the ranks `here` at the reported one, and the additions.
 fn report_found(degrees: FoundDegrees, here: Ranks, additions: u32) -> Report
-    ensures { λ r. ⌜ r ≡ record { degree = degrees .reported; side = byte (partDiffers here 1); one = degrees .one; zero = degrees .zero; additions = additions } ⌝ }
+    ensures { λ r. ⌜ r ≡ record { mark = degrees .mark; degree = degrees .reported; side = byte (partDiffers here 1); one = degrees .one; zero = degrees .zero; additions = additions } ⌝ }
 {
     let one = degrees.one;
     let zero = degrees.zero;
     Report {
+        mark: degrees.mark,
         degree: degrees.reported,
         side: side_of(here),
         one,

@@ -34,17 +34,19 @@ module _ (t u : ℕ → Bool) (n : ℕ) {x y : Option ℕ} (e : x ≡ first t (b
 
 returns : tie.Need-returns
 returns c =
-    let z = c .before in
+    let m = c .before in
+    let z = m .before in
     let o = z .before in
-    let found = c .smaller-degree .ensures in (
+    let found = m .smaller-degree .ensures in (
       ap₂ pair (o .side-degree .ensures) (z .side-degree2 .ensures),
-      (first-of-both _ _ _ (o .side-degree .ensures) (z .side-degree2 .ensures) found, low _ _ _ (o .side-degree .ensures) (z .side-degree2 .ensures) found),
+      (first-of-both _ _ _ (o .side-degree .ensures) (z .side-degree2 .ensures) found, (low _ _ _ (o .side-degree .ensures) (z .side-degree2 .ensures) found, c .mark .ensures)),
     )
 
 pub found-degrees-spec : {M : Type 1} → statement M
 found-degrees-spec =
     tie.close
     (tie.spec
+    (λ c κs. search needs)
     (λ c κs. search needs)
     (λ c κs. search needs)
     (λ c κs. search needs)

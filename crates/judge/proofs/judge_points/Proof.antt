@@ -116,7 +116,7 @@ found-degrees-requires c κs = small (start-by (c .before .before .before))
 
 -- the reported degree is at most 9
 low : (k : tie.After-found-degrees) → k .found-degrees .result .reported ≤ 9
-low k = omega (arith, k .found-degrees .ensures .1 .1, small (start-by (ranks-of k)))
+low k = omega (arith, k .found-degrees .ensures .1 .1 .0, small (start-by (ranks-of k)))
 
 -- the workspace is still ready
 ranked-ready : (r : tie.After-all-ranks) → let a = start-by r .args in Ready (a .order .now) (a .n) (r .all-ranks .last .0)
@@ -130,12 +130,12 @@ write-witnesses-requires c κs =
     let s = start-by r in
     let a = s .args in
     let none = side-none (a .order .now) (a .n) (points (a .set .now)) (pair (points (q .before .part-mask .result)) (points (q .part-mask2 .result))) (points-rising (a .set .now)) (small s)
-    (r .all-ranks .result .ranks) (r .all-ranks .ensures .0) (k .found-degrees .result .reported) (k .found-degrees .ensures .1 .1) in (
+    (r .all-ranks .result .ranks) (r .all-ranks .ensures .0) (k .found-degrees .result .reported) (k .found-degrees .ensures .1 .1 .0) in (
       ranked-ready r,
       marks-set s,
       marks-one (q .before),
       marks-zero q,
-      k .found-degrees .ensures .1 .1,
+      k .found-degrees .ensures .1 .1 .0,
       shown s .one-long,
       shown s .zero-long,
       none 1 (rw (q .before .part-mask .ensures) (part-among 1 (a .set .now) (a .table .now))),
@@ -158,8 +158,8 @@ returns c =
     let s = start-by r in
     let a = s .args in
     accepts (a .order .now) (a .set .now) (a .table .now) (a .n) (a .workspace .now) (a .one .now) (a .zero .now) (s .pre .0) (e .clear .ensures ∙ ap zeros (kept w))
-    (judgement-found (s .pre .1) (shown s .filter) (shown s .some) (two-parts (masks-by r)) (r .all-ranks .ensures .0) (k .found-degrees .ensures .1 .1) (k .found-degrees .ensures .1 .0)
-    (c .report-found .ensures) (k .found-degrees .ensures .0) (r .all-ranks .ensures .1 .0) (ap₂ pair (w .write-witnesses .ensures .0) (w .write-witnesses .ensures .1)))
+    (judgement-found (s .pre .1) (shown s .filter) (shown s .some) (two-parts (masks-by r)) (r .all-ranks .ensures .0) (k .found-degrees .ensures .1 .1 .0) (k .found-degrees .ensures .1 .0)
+    (c .report-found .ensures) (k .found-degrees .ensures .1 .1 .1) (k .found-degrees .ensures .0) (r .all-ranks .ensures .1 .0) (ap₂ pair (w .write-witnesses .ensures .0) (w .write-witnesses .ensures .1)))
 
 pub judge-points-spec : {M : Type 1} → statement M
 judge-points-spec =

@@ -7,8 +7,8 @@ use Rattle.judge.proofs.report_found.Statement.{statement}
 use Rattle.judge.proofs.report_found.Tie as tie
 
 -- a report with the side under another name
-side-same : {k a b additions : ℕ} {x y : SideDegree} → a ≡ b
-    → _≡_ {A = Report} (record { degree = k; side = a; one = x; zero = y; additions = additions }) (record { degree = k; side = b; one = x; zero = y; additions = additions })
+side-same : {m k a b additions : ℕ} {x y : SideDegree} → a ≡ b
+    → _≡_ {A = Report} (record { mark = m; degree = k; side = a; one = x; zero = y; additions = additions }) (record { mark = m; degree = k; side = b; one = x; zero = y; additions = additions })
 side-same e = cc
 
 returns : tie.Need-returns
