@@ -41,8 +41,8 @@ impl Random {
         let weights = self.number() as usize | 1 << weight(point);
         let mut set = match kind % 6 {
             0 => mask_of(n, |_| true),
-            1 => mask_of(n, |a| weight(a) == weight(point)),
-            2 => mask_of(n, |a| weights >> weight(a) & 1 == 1),
+            1 => of_weights(n, 1 << weight(point)),
+            2 => of_weights(n, weights),
             3 => self.subspace(n, point),
             4 => mask_of(n, |a| a == point),
             _ => self.mask(n, share),
@@ -85,6 +85,11 @@ pub fn mask_of(n: usize, mut chosen: impl FnMut(usize) -> bool) -> Vec<u8> {
         *x = chosen(a).into();
     }
     mask
+}
+
+// The mask of the points of n taps whose weights are chosen: bit w for the weight w.
+pub fn of_weights(n: usize, chosen: usize) -> Vec<u8> {
+    mask_of(n, |a| chosen >> weight(a) & 1 == 1)
 }
 
 // How often each number was answered, 0 for acceptance.
