@@ -7,6 +7,7 @@ pub mod filter_file; // filter_file.rs: Read, Write, and the file of a triple
 pub mod judgement; // judgement.rs: Judge, Certify, Hand over
 pub mod known; // known.rs: filters whose sides' own degrees are known, for tests
 pub mod lent; // lent.rs: buffers that are lent, for tests
+pub mod mark; // mark.rs: the mark of a set
 pub mod named; // named.rs: filter files with names
 pub mod normal_form; // normal_form.rs: Convert, Degree
 pub mod random; // random.rs: a random generator for tests
