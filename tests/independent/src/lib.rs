@@ -6,6 +6,7 @@ pub mod filter; // filter.rs: a filter as it is lent, and its checks
 pub mod filter_file; // filter_file.rs: Read, Write, and the file of a triple
 pub mod judgement; // judgement.rs: Judge, Certify, Hand over
 pub mod known; // known.rs: filters whose sides' own degrees are known, for tests
+pub mod known_mark; // known_mark.rs: sets whose marks are known, for tests
 pub mod lent; // lent.rs: buffers that are lent, for tests
 pub mod mark; // mark.rs: the mark of a set
 pub mod named; // named.rs: filter files with names

@@ -1,6 +1,7 @@
 // The mark of a set, found in two ways: by the tables that polynomials have on it, and by bases of those that are zero
 // there. Both are held against each other, against what is known of marks, and against the lowest degrees of annihilators.
 use independent::annihilator::lowest_degree;
+use independent::known_mark::rank_of_weight;
 use independent::mark::{mark, mark_of_bases, mark_of_tables};
 use independent::random::Random;
 use independent::rank::{points_of, ranking};
@@ -28,6 +29,23 @@ fn both_ways_agree_on_every_union_of_weights_of_four_taps_and_on_sets_drawn_at_r
     let mut random = Random(1);
     (1..1 << 5).for_each(|weights| compare(4, &points_of(&of_weights(4, weights))));
     (0..300).for_each(|_| compare(4, &chosen(4, 1 + random.below((1 << 16) - 1))));
+}
+
+#[test]
+fn on_one_weight_of_every_n_the_ranks_are_binomial() {
+    for (n, k) in (1..=9).flat_map(|n| (0..=n).map(move |k| (n, k))) {
+        let points = points_of(&of_weights(n, 1 << k));
+        (0..=n).for_each(|d| assert_eq!(ranking(&points, n, d).rank, rank_of_weight(n, k, d), "{n} {k} {d}"));
+    }
+}
+
+#[test]
+fn sets_of_every_n_whose_marks_are_known() {
+    let mut random = Random(2);
+    for known in (1..=9).flat_map(|n| random.known_marks(n)) {
+        let points = points_of(&known.set);
+        assert_eq!(mark(known.n, &points), known.mark, "n = {}, points {points:?}", known.n);
+    }
 }
 
 #[test]
