@@ -36,7 +36,7 @@ enum {
     EKTHAVRUL_WORKSPACE = 8192,   /* a workspace, in numbers of 64 bits */
     EKTHAVRUL_CERTIFICATE = 4096, /* a certificate, in numbers of 64 bits */
     EKTHAVRUL_ROW_WORDS = 8,      /* a point's row of a certificate, in numbers of 64 bits */
-    EKTHAVRUL_REPORT = 35,        /* the report of Judge, in numbers of 32 bits */
+    EKTHAVRUL_REPORT = 36,        /* the report of Judge, in numbers of 32 bits */
     EKTHAVRUL_FILE_MAX = 2053     /* no filter file that is read or written is longer, in bytes */
 };
 
@@ -56,7 +56,8 @@ enum {
     EKTHAVRUL_SIDE_AT = 31,        /* the side */
     EKTHAVRUL_ADDITIONS_AT = 32,   /* the count of additions of rows */
     EKTHAVRUL_DEGREE_ONE_AT = 33,  /* side 1's own degree, or EKTHAVRUL_NO_DEGREE */
-    EKTHAVRUL_DEGREE_ZERO_AT = 34  /* that of side 0 */
+    EKTHAVRUL_DEGREE_ZERO_AT = 34, /* that of side 0 */
+    EKTHAVRUL_MARK_AT = 35         /* the mark: no table has a higher reported degree on S */
 };
 
 /* The number in the report for a side that has no degree of its own; it is over every n. */
@@ -124,10 +125,11 @@ uint8_t ekthavrul_rank(const uint8_t *mask, size_t mask_length, size_t n, size_t
  * and of part 0, and 0 for those past n; as the degree the first d at which a part's rank is not that of S; as the side
  * 1 if part 1 differs there, else 0; as the additions the count over all eliminations; as each side's own degree the
  * first d up to n at which the rank of that side's part is not that of S, or EKTHAVRUL_NO_DEGREE if there is none, which
- * is so exactly where the part is all of S. The degree is the smaller of the sides' own that exist. `one` and `zero`
- * become the coefficients of the witness of their side, a polynomial of the reported degree that is zero on the part
- * and not on all of S, or zeros if the side does not differ at that degree. A refusal leaves the report as it was, like
- * all that is lent.
+ * is so exactly where the part is all of S; as the mark the first d at which twice the rank of S exceeds the number of
+ * points of S: there always is one, and it is at most n. The degree is the smaller of the sides' own that exist, and it
+ * is never over the mark. `one` and `zero` become the coefficients of the witness of their side, a polynomial of the
+ * reported degree that is zero on the part and not on all of S, or zeros if the side does not differ at that degree. A
+ * refusal leaves the report as it was, like all that is lent.
  * Refusals: LENGTH (set, table, workspace, one, zero), TAPS, BYTES (set, then table), EMPTY_SET.
  */
 uint8_t ekthavrul_judge(const uint8_t *set, size_t set_length, const uint8_t *table, size_t table_length, size_t n,

@@ -1,10 +1,10 @@
--- The numbers of a report: the ranks, stored three at a time, and the five behind them.
+-- The numbers of a report: the ranks, stored three at a time, and the six behind them.
 --   flat-none              no degree is written yet
 --   stored out k x y z     three numbers are stored in a list, from place k on
 --   length-stored          which leaves its length
 --   flat-next              the ranks of one degree more
---   flat-last              the five numbers behind the ranks of all degrees
---   degrees-at             where the sides' own degrees stand among them
+--   flat-last              the six numbers behind the ranks of all degrees
+--   behind-ranks           where they stand in a report
 --   number-most            the number of a degree up to 9, or of none, is at most 10
 --   number-none            it is 10 exactly where there is none
 use mathlib.Core.Path.{_≡_, refl, sym, ap, ap₂, _∙_}
@@ -67,24 +67,20 @@ flat-next out rs d l m e =
     ∙ ap (λ xs. xs ++ (r .set ∷ r .one ∷ r .zero ∷ [])) e
     ∙ sym (ap (λ k. flat (take k rs)) (add-one d) ∙ ap flat (take-suc rs d noRanks l) ∙ flat-snoc (take d rs) r)
 
--- the five numbers behind the ranks of all degrees
-pub flat-last : (out : List ℕ) (rs : List Ranks) (k side a : ℕ) (ks : Sides (Option ℕ)) {x y : ℕ} → length out ≡ 35 → take 30 out ≡ flat rs
-    → x ≡ degreeNumber (ks .one) → y ≡ degreeNumber (ks .zero) → set (set (stored out 30 k side a) 33 x) 34 y ≡ numbers rs (some k) side a ks
+-- the six numbers behind the ranks of all degrees
+pub flat-last : (out : List ℕ) (rs : List Ranks) (k side a : ℕ) (ks : Sides (Option ℕ)) (m : ℕ) {x y : ℕ} → length out ≡ 36 → take 30 out ≡ flat rs
+    → x ≡ degreeNumber (ks .one) → y ≡ degreeNumber (ks .zero) → stored (stored out 30 k side a) 33 x y m ≡ numbers rs (some k) side a ks (some m)
 unfolding numbers
-flat-last out rs k side a ks {x} {y} l e e₁ e₀ =
+flat-last out rs k side a ks m {x} {y} l e e₁ e₀ =
     let three : List ℕ = stored out 30 k side a in
-    let four : List ℕ = set three 33 x in
-    let long : length three ≡ 35 = length-stored out 30 k side a ∙ l in
-    let first : List ℕ = flat rs ++ (k ∷ side ∷ a ∷ []) in
-    let b : take 33 three ≡ first = take-stored out 30 k side a (omega arith) ∙ ap (λ xs. xs ++ (k ∷ side ∷ a ∷ [])) e in
-    let c : take 34 four ≡ take 33 three ++ (x ∷ []) = take-suc-set three 33 x (omega arith) in
-    let d : take 35 (set four 34 y) ≡ take 34 four ++ (y ∷ []) = take-suc-set four 34 y (omega (arith, length-set three 33 x)) in
-    sym (take-all 35 (set four 34 y) (omega (arith, length-set four 34 y, length-set three 33 x)))
-    ∙ d
-    ∙ ap (λ xs. xs ++ (y ∷ [])) (c ∙ ap (λ xs. xs ++ (x ∷ [])) b)
-    ∙ append-assoc first (x ∷ []) (y ∷ [])
-    ∙ append-assoc (flat rs) (k ∷ side ∷ a ∷ []) (x ∷ y ∷ [])
-    ∙ ap₂ (λ u v. flat rs ++ (k ∷ side ∷ a ∷ u ∷ v ∷ [])) e₁ e₀
+    let first : List ℕ = k ∷ side ∷ a ∷ [] in
+    let last : List ℕ = x ∷ y ∷ m ∷ [] in
+    let long : length three ≡ 36 = length-stored out 30 k side a ∙ l in
+    sym (take-all 36 (stored three 33 x y m) (omega (arith, length-stored three 33 x y m)))
+    ∙ take-stored three 33 x y m (omega arith)
+    ∙ ap (λ xs. xs ++ last) (take-stored out 30 k side a (omega arith) ∙ ap (λ xs. xs ++ first) e)
+    ∙ append-assoc (flat rs) first last
+    ∙ ap₂ (λ u v. flat rs ++ (k ∷ side ∷ a ∷ u ∷ v ∷ m ∷ [])) e₁ e₀
 
 -- the numbers of ranks are three for each
 length-flat : (rs : List Ranks) → length (flat rs) ≡ 3 * length rs
@@ -92,16 +88,13 @@ unfolding flat
 length-flat [] = refl
 length-flat (r ∷ rs) = omega (arith, length-flat rs)
 
--- where the sides' own degrees stand in a report
-pub degrees-at : (rs : List Ranks) (k : Option ℕ) (side a : ℕ) (ks : Sides (Option ℕ)) → length rs ≡ 10
-    → (getD (numbers rs k side a ks) 33 0 ≡ degreeNumber (ks .one)) × (getD (numbers rs k side a ks) 34 0 ≡ degreeNumber (ks .zero))
+-- where the numbers behind the ranks stand in a report
+pub behind-ranks : (rs : List Ranks) (k : Option ℕ) (side a : ℕ) (ks : Sides (Option ℕ)) (m : Option ℕ) → length rs ≡ 10 → (i : ℕ)
+    → getD (numbers rs k side a ks m) (30 + i) 0 ≡ getD (degreeNumber k ∷ side ∷ a ∷ degreeNumber (ks .one) ∷ degreeNumber (ks .zero) ∷ degreeNumber m ∷ []) i 0
 unfolding numbers
-degrees-at rs k side a ks l =
-    let last : List ℕ = degreeNumber k ∷ side ∷ a ∷ degreeNumber (ks .one) ∷ degreeNumber (ks .zero) ∷ [] in
-    let long : length (flat rs) ≡ 30 = omega (arith, length-flat rs) in (
-      sym (ap (λ m. getD (flat rs ++ last) (m + 3) 0) long) ∙ getD-append-add (flat rs) last 3 0,
-      sym (ap (λ m. getD (flat rs ++ last) (m + 4) 0) long) ∙ getD-append-add (flat rs) last 4 0,
-    )
+behind-ranks rs k side a ks m l i =
+    let long : length (flat rs) ≡ 30 = omega (arith, length-flat rs) in
+    sym (ap (λ p. getD (numbers rs k side a ks m) (p + i) 0) long) ∙ getD-append-add (flat rs) _ i 0
 
 module _ (x : Option ℕ) (small : (d : ℕ) → x ≡ some d → d ≤ 9) where
   -- at most 10

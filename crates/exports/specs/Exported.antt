@@ -46,8 +46,8 @@ pub record RankStatus (o : Outcome Ranked) (ws ws′ : List ℕ) (k k′ a a′ 
   pub rank : k′ ≡ leftBy o k (λ x. x .rank)
   pub additions : a′ ≡ leftBy o a (λ x. x .additions)
 
--- Judge: workspace, witness buffers and report at entry and at exit; the degree that it holds is one, and
--- side 1's own degree stands at 33, side 0's at 34, each 10 exactly where there is none
+-- Judge: workspace, witness buffers and report at entry and at exit; the degree that it holds is one,
+-- side 1's own degree stands at 33, side 0's at 34, each 10 exactly where there is none, and the mark, which there always is, at 35
 pub record JudgeStatus (o : Outcome Judgement) (ws ws′ : List ℕ) (w w′ : Sides (List ℕ)) (ns ns′ : List ℕ) (r : ℕ) : Type 0 where
   pub status : r ≡ statusOf o
   pub workspace : ws′ ≡ left o ws (zeros (length ws))
@@ -55,6 +55,7 @@ pub record JudgeStatus (o : Outcome Judgement) (ws ws′ : List ℕ) (w w′ : S
   pub report : ns′ ≡ leftBy o ns reportOf
   pub reported : (j : Judgement) → o ≡ accepted j → (k : ℕ) × (j .degree ≡ some k)
   pub none-named : (j : Judgement) → o ≡ accepted j → ((getD ns′ 33 0 ≡ 10) ↔ (j .degrees .one ≡ none)) × ((getD ns′ 34 0 ≡ 10) ↔ (j .degrees .zero ≡ none))
+  pub mark-named : (j : Judgement) → o ≡ accepted j → j .mark ≡ some (getD ns′ 35 0)
 
 -- Certify: workspace and certificate at entry and at exit
 pub record CertifyStatus (o : Outcome (List ℕ)) (ws ws′ c c′ : List ℕ) (r : ℕ) : Type 0 where

@@ -1,8 +1,8 @@
--- The report of Judge: what it answers beside its buffers, as a list of 35 numbers.
---   flat rs                  the ranks at each degree as numbers: of the set, of part 1 and of part 0
---   degreeNumber k           the number for a degree; 10, which is no degree, if there is none
---   numbers rs k side a ks   the report with the ranks rs, the degree k, the side, a additions and the sides' own degrees ks
---   reportOf j               the report of a judgement
+-- The report of Judge: what it answers beside its buffers, as a list of 36 numbers.
+--   flat rs                    the ranks at each degree as numbers: of the set, of part 1 and of part 0
+--   degreeNumber k             the number for a degree; 10, which is no degree, if there is none
+--   numbers rs k side a ks m   the report with the ranks rs, the degree k, the side, a additions, the sides' own degrees ks and the mark m
+--   reportOf j                 the report of a judgement
 use mathlib.Core.List.{List, [], _∷_, _++_}
 use mathlib.Core.Option.{Option, none, some}
 use Prim.Native.Nat.{ℕ}
@@ -20,10 +20,10 @@ abbrev pub degreeNumber : Option ℕ → ℕ
 degreeNumber none = 10
 degreeNumber (some k) = k
 
--- the ranks, then the degree, the side, the additions, side 1's own degree and side 0's
-unfoldable pub numbers : List Ranks → Option ℕ → ℕ → ℕ → Sides (Option ℕ) → List ℕ
-numbers rs k side a ks = flat rs ++ (degreeNumber k ∷ side ∷ a ∷ degreeNumber (ks .one) ∷ degreeNumber (ks .zero) ∷ [])
+-- the ranks, then the degree, the side, the additions, side 1's own degree, side 0's, and the mark
+unfoldable pub numbers : List Ranks → Option ℕ → ℕ → ℕ → Sides (Option ℕ) → Option ℕ → List ℕ
+numbers rs k side a ks m = flat rs ++ (degreeNumber k ∷ side ∷ a ∷ degreeNumber (ks .one) ∷ degreeNumber (ks .zero) ∷ degreeNumber m ∷ [])
 
 -- the report of a judgement
 abbrev pub reportOf : Judgement → List ℕ
-reportOf j = numbers (j .ranks) (j .degree) (j .side) (j .additions) (j .degrees)
+reportOf j = numbers (j .ranks) (j .degree) (j .side) (j .additions) (j .degrees) (j .mark)

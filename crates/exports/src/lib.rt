@@ -109,8 +109,8 @@ pub extern "C" fn ekthavrul_rank(
     }
 }
 
-// Judge: the ranks at each degree, the reported degree, the side, the count of additions and each side's own degree go to
-// `report`.
+// Judge: the ranks at each degree, the reported degree, the side, the count of additions, each side's own degree and the
+// mark go to `report`.
 #[no_mangle]
 pub extern "C" fn ekthavrul_judge(
     set: &[u8],

@@ -10,7 +10,7 @@ use immunity::SideDegree;
 use judge::Report;
 
 // The length of the report.
-pub const REPORT: usize = 35;
+pub const REPORT: usize = 36;
 
 // The rank of the set at degree 0. At degree d it stands RANKS_OF_DEGREE * d further on, and so do the two behind it.
 const RANK_SET_AT: usize = 0;
@@ -39,6 +39,9 @@ const DEGREE_ONE_AT: usize = 33;
 // Side 0's own degree.
 const DEGREE_ZERO_AT: usize = 34;
 
+// The mark.
+const MARK_AT: usize = 35;
+
 // The number for a side that has no degree.
 const NO_DEGREE: u32 = 10;
 
@@ -58,8 +61,8 @@ fn degree_number(degree: SideDegree) -> u32
 
 // The report of what Judge found, with these ranks at each degree.
 pub fn report_of(ranks: [Ranks; DEGREES], found: Report) -> [u32; REPORT]
-    requires { ⌜ (found .degree ≤ 9) × (degreeNumber (degreeOf (found .one)) ≤ 10) × (degreeNumber (degreeOf (found .zero)) ≤ 10) ⌝ }
-    ensures { λ r. ⌜ r ≡ numbersOf ranks (some (found .degree)) (found .side) (found .additions) (degreesOf (found .one) (found .zero)) ⌝ }
+    requires { ⌜ (found .degree ≤ 9) × (found .mark ≤ 9) × (degreeNumber (degreeOf (found .one)) ≤ 10) × (degreeNumber (degreeOf (found .zero)) ≤ 10) ⌝ }
+    ensures { λ r. ⌜ r ≡ numbersOf ranks (some (found .degree)) (found .side) (found .additions) (degreesOf (found .one) (found .zero)) (some (found .mark)) ⌝ }
 {
     let mut numbers = [0u32; REPORT];
     let mut d: usize = 0;
@@ -78,5 +81,6 @@ pub fn report_of(ranks: [Ranks; DEGREES], found: Report) -> [u32; REPORT]
     let zero = found.zero;
     numbers[DEGREE_ONE_AT] = degree_number(one);
     numbers[DEGREE_ZERO_AT] = degree_number(zero);
+    numbers[MARK_AT] = found.mark as u32;
     numbers
 }

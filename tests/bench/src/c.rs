@@ -17,6 +17,7 @@ unsafe extern "C" {
         side: *mut u8,
         additions: *mut u32,
         own_degrees: *mut [usize; 2],
+        mark: *mut usize,
     );
     fn c_certify(
         set: *const u8,
@@ -43,10 +44,11 @@ pub const JUDGE: Option<Judge> = Some(|filter, workspace, one, zero| {
     assert_eq!((workspace.len(), one.len(), zero.len()), (8192, 512, 512));
     let (set, table, workspace) = (filter.set.as_ptr(), filter.table.as_ptr(), workspace.as_mut_ptr());
     let (one, zero) = (one.as_mut_ptr(), zero.as_mut_ptr());
-    let mut answer = Judgement { ranks: [[0; 3]; 10], degree: 0, side: 0, additions: 0, own_degrees: [None; 2] };
+    let mut answer =
+        Judgement { ranks: [[0; 3]; 10], degree: 0, side: 0, additions: 0, own_degrees: [None; 2], mark: 0 };
     let mut numbers = [0; 2];
-    let Judgement { ranks, degree, side, additions, .. } = &mut answer;
-    unsafe { c_judge(set, table, filter.n, workspace, one, zero, ranks, degree, side, additions, &mut numbers) };
+    let Judgement { ranks, degree, side, additions, mark, .. } = &mut answer;
+    unsafe { c_judge(set, table, filter.n, workspace, one, zero, ranks, degree, side, additions, &mut numbers, mark) };
     answer.own_degrees = numbers.map(|d| (d < answer.ranks.len()).then_some(d));
     answer
 });

@@ -1,6 +1,6 @@
 // Judge of the proved library in C, by the same steps: rows made once, an elimination with all columns for the set and
-// each part, the ranks at each degree from its pivots, each side's first difference, and by back substitution the
-// witness of each side that differs at the first of both.
+// each part, the ranks at each degree from its pivots, each side's first difference, the mark, and by back substitution
+// the witness of each side that differs at the first of both.
 #include "elimination.h"
 #include <string.h>
 
@@ -115,9 +115,18 @@ static size_t first_difference(size_t ranks[DEGREES][3], int i) {
     return d;
 }
 
+// The first degree at which twice the rank of the set exceeds the number of its points, which is its rank at n.
+static size_t mark_of(size_t ranks[DEGREES][3], size_t n) {
+    size_t d = 0;
+    while (d < n && 2 * ranks[d][0] <= ranks[n][0])
+        d++;
+    return d;
+}
+
 // Judge of a filter of n taps; the workspace is zero at exit. A side that has no degree of its own gets DEGREES.
 void c_judge(const uint8_t *set, const uint8_t *table, size_t n, uint64_t *workspace, uint8_t *one, uint8_t *zero,
-             size_t ranks[DEGREES][3], size_t *degree, uint8_t *side, uint32_t *additions, size_t own_degrees[2]) {
+             size_t ranks[DEGREES][3], size_t *degree, uint8_t *side, uint32_t *additions, size_t own_degrees[2],
+             size_t *mark) {
     uint8_t part_one[POINTS], part_zero[POINTS];
     const uint8_t *masks[3] = {set, part_one, part_zero};
     part_mask(part_one, set, table, 1);
@@ -136,4 +145,5 @@ void c_judge(const uint8_t *set, const uint8_t *table, size_t n, uint64_t *works
     clear(workspace);
     *degree = k;
     *side = ranks[k][1] != ranks[k][0];
+    *mark = mark_of(ranks, n);
 }

@@ -1,6 +1,6 @@
 // Judge of the proved library in Rust, by the same steps: rows made once, an elimination with all columns for the set and
-// each part, the ranks at each degree from its pivots, each side's first difference, and by back substitution the
-// witness of each side that differs at the first of both.
+// each part, the ranks at each degree from its pivots, each side's first difference, the mark, and by back substitution
+// the witness of each side that differs at the first of both.
 use crate::elimination::{
     Basis, Row, column_count, eliminate, eliminate_tallied, exponents, first_columns, has, prepare, rows_of,
 };
@@ -49,6 +49,11 @@ fn all_ranks(masks: [&[u8]; 3], n: usize, kept: &mut [Row], rows: &[Row]) -> ([[
     (ranks, additions)
 }
 
+// The first degree at which twice the rank of the set exceeds the number of its points, which is its rank at n.
+fn mark(ranks: &[[usize; 3]; 10], n: usize) -> usize {
+    (0..n).find(|d| 2 * ranks[*d][0] > ranks[n][0]).unwrap_or(n)
+}
+
 // Judge of a filter; the workspace is zero at exit.
 pub fn judge(filter: Filter, workspace: &mut [u64], one: &mut [u8], zero: &mut [u8]) -> Judgement {
     let (n, set) = (filter.n, filter.set);
@@ -65,5 +70,5 @@ pub fn judge(filter: Filter, workspace: &mut [u64], one: &mut [u8], zero: &mut [
     }
     workspace.fill(0);
     let side = u8::from(ranks[degree][1] != ranks[degree][0]);
-    Judgement { ranks, degree, side, additions, own_degrees }
+    Judgement { ranks, degree, side, additions, own_degrees, mark: mark(&ranks, n) }
 }

@@ -1,12 +1,13 @@
 // Judge, Certify and Hand over: docs/SPECIFICATION.md, 'Judge' to 'Hand over'.
 use crate::annihilator::lowest_degree;
 use crate::filter::Filter;
+use crate::mark::mark;
 use crate::rank::{column_vectors, points_of, ranking, row, row_span};
 use crate::refusal::{CERTIFICATE, POINTS, Refusal, WORKSPACE, lengths, require, taps};
 use crate::span::{Bits, Span};
 
 // What Judge answers: for each d the ranks of S, part 1 and part 0; the degree, the side and the additions; side 1's
-// own degree and side 0's, where there is one.
+// own degree and side 0's, where there is one; the mark of S.
 #[derive(Clone, Debug, PartialEq, Eq)]
 pub struct Judgement {
     pub ranks: [[usize; 3]; 10],
@@ -14,6 +15,7 @@ pub struct Judgement {
     pub side: u8,
     pub additions: u32,
     pub own_degrees: [Option<usize>; 2],
+    pub mark: usize,
 }
 
 impl Filter<'_> {
@@ -61,7 +63,7 @@ pub fn judge(filter: Filter, workspace: &mut [u64], one: &mut [u8], zero: &mut [
     write_choice(zero, found(2));
     let side = differs(degree, 1).into();
     let own_degrees = [1, 2].map(|i| lowest_degree(n, &lists[0], &lists[i]));
-    Ok(Judgement { ranks, degree, side, additions, own_degrees })
+    Ok(Judgement { ranks, degree, side, additions, own_degrees, mark: mark(n, &lists[0]) })
 }
 
 // Certify.

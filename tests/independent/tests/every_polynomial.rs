@@ -130,11 +130,19 @@ fn check_ranks(judgement: &Judgement, by_degree: &[Vec<Ranking>], sets: [usize; 
     assert_eq!(judgement.additions, additions, "sets {sets:?}");
 }
 
-// Demand 3 about ranks, degree, side and witnesses for one set and table, and the sides' own degrees.
+// The mark of the set, from the ranks of every set at each degree.
+fn check_mark(judgement: &Judgement, by_degree: &[Vec<Ranking>], set: usize) {
+    let mark = by_degree.iter().position(|all| 2 * all[set].rank > set.count_ones() as usize);
+    assert_eq!(Some(judgement.mark), mark, "set {set:b}");
+    assert!(judgement.degree <= judgement.mark, "set {set:b}: over the mark");
+}
+
+// Demand 3 about ranks, degree, side and witnesses for one set and table, the sides' own degrees, and the mark.
 fn check_judgement(all: &[Polynomial], by_degree: &[Vec<Ranking>], n: usize, set: usize, table: usize) {
     let (judgement, witnesses) = judged(n, set, table);
     let parts = [set & table, set & !table];
     check_ranks(&judgement, by_degree, [set, parts[0], parts[1]]);
+    check_mark(&judgement, by_degree, set);
     let least = parts.map(|part| cancelling(all, set, part).map(|g| g.degree).min());
     for (d, i) in (0..=n).flat_map(|d| [(d, 0), (d, 1)]) {
         let differs = judgement.ranks[d][i + 1] != judgement.ranks[d][0];

@@ -27,25 +27,25 @@ fn starred_case_5() {
     let (judgement, witnesses) = judged(2, &mask_of(2, |_| true), &listed(2, &[3]));
     assert_eq!(judgement.ranks[..4], [[1, 1, 1], [3, 1, 3], [4, 1, 3], [0, 0, 0]]);
     assert_eq!((judgement.degree, judgement.side, judgement.additions), (1, 1, 19));
-    assert_eq!(judgement.own_degrees, [Some(1), Some(2)]);
+    assert_eq!((judgement.own_degrees, judgement.mark), ([Some(1), Some(2)], 1));
     assert_eq!(witnesses, [vec![0, 1], vec![]]);
 }
 
 #[test]
 fn starred_cases_6_and_7() {
     let (majority, _) = judged(3, &mask_of(3, |_| true), &listed(3, &[3, 5, 6, 7]));
-    assert_eq!((majority.ranks[1], majority.degree, majority.side), ([4, 4, 4], 2, 1));
+    assert_eq!((majority.ranks[1], majority.degree, majority.side, majority.mark), ([4, 4, 4], 2, 1, 2));
     let (even, _) = judged(4, &listed(4, &[0, 3, 5, 6, 9, 10, 12, 15]), &listed(4, &[6, 10, 12, 15]));
-    assert_eq!((even.ranks[1], even.degree), ([4, 4, 4], 2));
+    assert_eq!((even.ranks[1], even.degree, even.mark), ([4, 4, 4], 2, 2));
 }
 
 #[test]
 fn starred_cases_8_and_9() {
     let (zero, witnesses) = judged(1, &listed(1, &[0]), &listed(1, &[]));
-    assert_eq!((zero.degree, zero.side, zero.own_degrees), (0, 1, [Some(0), None]));
+    assert_eq!((zero.degree, zero.side, zero.own_degrees, zero.mark), (0, 1, [Some(0), None], 0));
     assert_eq!(witnesses, [vec![0], vec![]]);
     let (one, witnesses) = judged(1, &listed(1, &[0]), &listed(1, &[0]));
-    assert_eq!((one.degree, one.side, one.own_degrees), (0, 0, [None, Some(0)]));
+    assert_eq!((one.degree, one.side, one.own_degrees, one.mark), (0, 0, [None, Some(0)], 0));
     assert_eq!(witnesses, [vec![], vec![0]]);
 }
 
@@ -53,7 +53,7 @@ fn starred_cases_8_and_9() {
 fn starred_case_10() {
     let (judgement, witnesses) = judged(2, &listed(2, &[1, 2]), &listed(2, &[1]));
     assert_eq!([0, 1, 2].map(|d| judgement.ranks[d][0]), [1, 2, 2]);
-    assert_eq!((judgement.degree, &witnesses[0][..]), (1, &[0, 1][..]));
+    assert_eq!((judgement.degree, judgement.mark, &witnesses[0][..]), (1, 1, &[0, 1][..]));
 }
 
 // The exponents are a polynomial of degree k that is zero on the part and not on all of the set.
@@ -78,10 +78,11 @@ fn check_certificate(filter: Filter, side: u8, d: usize, [set, part]: [&[usize];
     }
 }
 
-// The witnesses of the filter, and its certificates at the degree before the reported one.
+// The witnesses of the filter, and its certificates at the degree before the reported one, which is not over the mark.
 fn check_judgement(n: usize, set: &[u8], table: &[u8]) {
     let (judgement, witnesses) = judged(n, set, table);
     let (k, points) = (judgement.degree, points_of(set));
+    assert!(k <= judgement.mark, "over the mark: n = {n}, points {points:?}");
     for (side, witness) in [1, 0].into_iter().zip(&witnesses) {
         let part: Vec<usize> = points.iter().copied().filter(|a| table[*a] == side).collect();
         if judgement.ranks[k][2 - usize::from(side)] == judgement.ranks[k][0] {

@@ -19,13 +19,14 @@ unsafe extern "C" {
 }
 
 // The length of the report, and where its numbers stand, as include/ekthavrul.h says.
-const REPORT: usize = 35;
+const REPORT: usize = 36;
 const RANKS_AT: [usize; 3] = [0, 1, 2];
 const RANKS_OF_DEGREE: usize = 3;
 const DEGREE_AT: usize = 30;
 const SIDE_AT: usize = 31;
 const ADDITIONS_AT: usize = 32;
 const OWN_DEGREES_AT: [usize; 2] = [33, 34];
+const MARK_AT: usize = 35;
 
 // The number for a side that has no degree of its own.
 const NO_DEGREE: u32 = 10;
@@ -45,6 +46,7 @@ fn judgement(report: [u32; REPORT], n: usize) -> Judgement {
         side: report[SIDE_AT].try_into().expect("a side"),
         additions: report[ADDITIONS_AT],
         own_degrees: OWN_DEGREES_AT.map(|i| own_degree(report[i], n)),
+        mark: report[MARK_AT] as usize,
     }
 }
 

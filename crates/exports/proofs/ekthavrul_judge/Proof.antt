@@ -13,11 +13,11 @@ use Rattle.immunity.specs.Judgement.{Judgement}
 use Rattle.judge.specs.declared.JudgeAnswer.{JudgeAnswer}
 use Rattle.judge.specs.declared.Finding.{Finding}
 use Rattle.judge.specs.Judge.{found, JudgeContract}
-use Rattle.judge.proofs.Passed.{found-judged, ranks-long, degree-small, side-degree-small}
+use Rattle.judge.proofs.Passed.{found-judged, ranks-long, degree-small, side-degree-small, mark-small}
 use Rattle.exports.specs.Status.{statusOf}
-use Rattle.exports.specs.Report.{reportOf}
+use Rattle.exports.specs.Report.{degreeNumber, reportOf}
 use Rattle.exports.specs.Exported.{JudgeStatus}
-use Rattle.exports.proofs.Flat.{degrees-at, number-most, number-none}
+use Rattle.exports.proofs.Flat.{behind-ranks, number-most, number-none}
 use Rattle.exports.proofs.ekthavrul_judge.Statement.{statement}
 use Rattle.exports.proofs.ekthavrul_judge.Tie as tie
 
@@ -25,8 +25,13 @@ use Rattle.exports.proofs.ekthavrul_judge.Tie as tie
 none-named : (j : Judgement) → length (j .ranks) ≡ 10 → ((b : Bool) (d : ℕ) → sideIf b (j .degrees) ≡ some d → d ≤ 9)
     → {ns : List ℕ} → ns ≡ reportOf j → ((getD ns 33 0 ≡ 10) ↔ (j .degrees .one ≡ none)) × ((getD ns 34 0 ≡ 10) ↔ (j .degrees .zero ≡ none))
 none-named j long small e =
-    let (one, zero) = degrees-at (j .ranks) (j .degree) (j .side) (j .additions) (j .degrees) long in
-    rw (e, one, zero) (number-none (j .degrees .one) (small true), number-none (j .degrees .zero) (small false))
+    let at = behind-ranks (j .ranks) (j .degree) (j .side) (j .additions) (j .degrees) (j .mark) long in
+    rw (e, at 3, at 4) (number-none (j .degrees .one) (small true), number-none (j .degrees .zero) (small false))
+
+-- the mark in a report
+mark-named : (j : Judgement) → length (j .ranks) ≡ 10 → {m : ℕ} → j .mark ≡ some m → {ns : List ℕ} → ns ≡ reportOf j → j .mark ≡ some (getD ns 35 0)
+mark-named j long is e =
+    is ∙ ap some (sym (ap (λ ns. getD ns 35 0) e ∙ behind-ranks (j .ranks) (j .degree) (j .side) (j .additions) (j .degrees) (j .mark) long 5 ∙ ap degreeNumber is))
 
 module _ {o : Outcome Judgement} {ws ws′ : List ℕ} {w w′ : Sides (List ℕ)} {answer : JudgeAnswer} (h : JudgeContract o ws ws′ w w′ answer)
     {x : Finding} (e : answer .finding ≡ x) where
@@ -45,6 +50,8 @@ module _ {o : Outcome Judgement} {ws ws′ : List ℕ} {w w′ : Sides (List ℕ
     report = report ∙ ap (λ y. leftBy y ns reportOf) states;
     reported = λ j a. let (y, _, same) = found-judged x (answer .ranks) w′ j (states ∙ a) in (y .degree, sym (ap (λ (i : Judgement). i .degree) same));
     none-named = λ j a. none-named j (long j a) (small j a) (report ∙ ap (λ y. leftBy y ns reportOf) (states ∙ a));
+    mark-named = λ j a. let (_, _, same) = found-judged x (answer .ranks) w′ j (states ∙ a) in
+        mark-named j (long j a) (sym (ap (λ (i : Judgement). i .mark) same)) (report ∙ ap (λ y. leftBy y ns reportOf) (states ∙ a));
   }
 
 report-of-requires : tie.Need-report-of-requires
@@ -53,7 +60,7 @@ report-of-requires c κs =
     let j = x .before .before .before .before .before .before .before .before in
     let is = sym (states (j .judge .ensures) (x .finding2 .given .1)) in
     let small = side-degree-small _ _ _ _ _ _ _ _ is in
-    (degree-small _ _ _ _ _ _ _ _ is _ refl, number-most _ (small true), number-most _ (small false))
+    (degree-small _ _ _ _ _ _ _ _ is _ refl, mark-small _ _ _ _ _ _ _ _ is _ refl, number-most _ (small true), number-most _ (small false))
 
 returns : tie.Need-returns
 returns c =

@@ -1,4 +1,4 @@
--- The loop's invariant: the first 3 * d numbers are the ranks of the first d degrees (flat-next); flat-last stores the five numbers behind them.
+-- The loop's invariant: the first 3 * d numbers are the ranks of the first d degrees (flat-next); flat-last stores the six numbers behind them.
 use borrow.Author.Needs.{needs}
 use mathlib.Core.Path.{_≡_, sym, ap, _∙_}
 use Prim.Native.Nat.{ℕ, _-_, _*_, _≤_}
@@ -11,13 +11,13 @@ use Rattle.exports.proofs.report.report_of.Statement.{statement}
 use Rattle.exports.proofs.report.report_of.Tie as tie
 
 abbrev Inv-loop : tie.InvT-loop
-Inv-loop found ranks numbers₀ d₀ numbers d = (d ≤ 10) × (length numbers ≡ 35) × (take (3 * d) numbers ≡ flat (take d ranks))
+Inv-loop found ranks numbers₀ d₀ numbers d = (d ≤ 10) × (length numbers ≡ 36) × (take (3 * d) numbers ≡ flat (take d ranks))
 
 abbrev μ-loop : tie.MeasureT-loop
 μ-loop found ranks numbers₀ d₀ numbers d = 10 - d
 
 loop-holds : tie.Need-loop-holds Inv-loop μ-loop
-loop-holds c = (omega arith, length-replicate {A = ℕ} 35 0, flat-none (replicate 35 0) (c .args .t1))
+loop-holds c = (omega arith, length-replicate {A = ℕ} 36 0, flat-none (replicate 36 0) (c .args .t1))
 
 loop-again : tie.Need-loop-again Inv-loop μ-loop
 loop-again c =
@@ -32,14 +32,15 @@ loop-again c =
 
 returns : tie.Need-returns Inv-loop μ-loop
 returns c =
-    let one = c .before in
+    let zero = c .before in
+    let one = zero .before in
     let l = one .before .before .before .before in
     let a = l .before .args in
     let found = a .found in
     let ten : l .loop .d ≡ 10 = omega arith in
-    flat-last (l .loop .numbers) (a .t1) (found .degree) (found .side) (found .additions) _ (l .loop .inv .1)
+    flat-last (l .loop .numbers) (a .t1) (found .degree) (found .side) (found .additions) _ (found .mark) (l .loop .inv .1)
     (ap (λ d. take (3 * d) (l .loop .numbers)) (sym ten) ∙ l .loop .inv .2 ∙ ap flat (take-all (l .loop .d) (a .t1) (search needs)))
-    (one .degree-number .ensures) (c .degree-number2 .ensures)
+    (one .degree-number .ensures) (zero .degree-number2 .ensures)
 
 pub report-of-spec : {M : Type 1} → statement M
 report-of-spec =
@@ -74,5 +75,7 @@ report-of-spec =
     (λ c κs. search needs)
     (λ c. omega arith)
     (λ c κs. search needs)
+    (λ c. omega arith)
+    (λ c. omega arith)
     (λ c. omega arith)
     returns)
