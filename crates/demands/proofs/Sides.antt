@@ -87,11 +87,11 @@ module _ (n : ℕ) (s f : List ℕ) (p : Filter n s f) (has : isEmpty (points s)
 
 -- the lines of a judgement's sheet where a degree is reported, one behind the other
 sheet-lines : (n : ℕ) (s f : List ℕ) (j : Judgement) (k : ℕ) → j .degree ≡ some k
-    → judgementSheet n s f j ≡ firstLine n (length (points s)) ++ rankLines n (j .ranks)
+    → judgementSheet n s f j ≡ firstLine n (length (points s)) (j .mark) ++ rankLines n (j .ranks)
     ++ degreeLine k (j .side) (ofSide (j .side) (j .witnesses)) ++ sidesLine (j .degrees) ++ sums n s f k ++ additionsLine (j .additions)
 unfolding judgementSheet
 sheet-lines n s f j k e =
-    let front : Text = firstLine n (length (points s)) ++ rankLines n (j .ranks) in
+    let front : Text = firstLine n (length (points s)) (j .mark) ++ rankLines n (j .ranks) in
     let line : Text = degreeLine k (j .side) (ofSide (j .side) (j .witnesses)) in
     let last : Text = additionsLine (j .additions) in
     ap (λ x. front ++ reportLines n s f j x ++ last) e

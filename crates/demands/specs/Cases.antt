@@ -175,7 +175,7 @@ cases =
           ∷ witness (0 ∷ [])
           ∷ printed
           (1 ∷ 1 ∷ 0 ∷ 0 ∷ [])
-          ("n 1 points 1 mark 1" ∷ "0 1 0 1" ∷ "1 1 0 1" ∷ "degree 0 side 1 witness 0" ∷ "sides 0 none" ∷ "additions 0" ∷ [])
+          ("n 1 points 1 mark 0" ∷ "0 1 0 1" ∷ "1 1 0 1" ∷ "degree 0 side 1 witness 0" ∷ "sides 0 none" ∷ "additions 0" ∷ [])
           ∷ [];
     }
     -- case 9
@@ -189,7 +189,7 @@ cases =
           ∷ witness (0 ∷ [])
           ∷ printed
           (1 ∷ 1 ∷ 0 ∷ 1 ∷ 0 ∷ [])
-          ("n 1 points 1 mark 1" ∷ "0 1 1 0" ∷ "1 1 1 0" ∷ "degree 0 side 0 witness 0" ∷ "sides none 0" ∷ "additions 0" ∷ [])
+          ("n 1 points 1 mark 0" ∷ "0 1 1 0" ∷ "1 1 1 0" ∷ "degree 0 side 0 witness 0" ∷ "sides none 0" ∷ "additions 0" ∷ [])
           ∷ [];
     }
     -- case 10

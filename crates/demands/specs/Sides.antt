@@ -67,5 +67,5 @@ pub record BothSides : Type 0 where
   pub printed : (file : List ℕ) (c : Contents) (j : Judgement) → reading file ≡ accepted c
       → let s : List ℕ = mask (lists (c .set)) in let f : List ℕ = mask (lists (c .table)) in
       JudgeAccepts graded (c .n) s f j → (k : ℕ) × (j .degree ≡ some k)
-      × (sheet file ≡ firstLine (c .n) (length (points s)) ++ rankLines (c .n) (j .ranks)
+      × (sheet file ≡ firstLine (c .n) (length (points s)) (j .mark) ++ rankLines (c .n) (j .ranks)
       ++ degreeLine k (j .side) (ofSide (j .side) (j .witnesses)) ++ sidesLine (j .degrees) ++ sums (c .n) s f k ++ additionsLine (j .additions))

@@ -1,18 +1,17 @@
 -- The lines of the printed sheet.
---   mark n                  n / 2 rounded up: on all points the best degree there is, says the literature
+--   degreeField k           a degree, or `none`, after a space
 --   refusedLine k           the line for a refusal
---   firstLine n m           n, the number m of points of S, and the mark
+--   firstLine n c m         n, the number c of points of S, and the mark m
 --   rankLine d r            a degree, and the ranks of S, part 1 and part 0
 --   rankLines n rs          the rank lines, for each degree up to n
 --   degreeLine k side w     the reported degree, the side, and that side's witness, its exponents in graded order
---   degreeField k           a degree, or `none`, after a space
 --   sidesLine ks            each side's own degree, side 1's then side 0's
 --   sumLine side a qs       a side, a point, and points whose rows sum to its row
 --   sumLines side c ps      the sums that a certificate states for points, rising within a sum
 --   additionsLine m         Judge's additions
 use mathlib.Core.List.{List, _++_}
 use mathlib.Core.Option.{Option, none, some}
-use Prim.Native.Nat.{ℕ, _+_, _/_}
+use Prim.Native.Nat.{ℕ, _+_}
 use lib.ListN.{getD}
 use Rattle.cube.specs.NumberLists.{below, select}
 use Rattle.cube.specs.Mask.{member}
@@ -23,17 +22,18 @@ use Rattle.immunity.specs.Ranks.{noRanks}
 use Rattle.immunity.specs.Certificate.{bitOf}
 use Rattle.text.specs.Text.{Text, ascii, newline, decimal, field, labelled, joined, fields}
 
--- n / 2 rounded up
-abbrev pub mark : ℕ → ℕ
-mark n = (n + 1) / 2
+-- a degree, or `none`, after a space
+abbrev pub degreeField : Option ℕ → Text
+degreeField none = ascii " none"
+degreeField (some k) = field k
 
 -- the line for a refusal
 abbrev pub refusedLine : ℕ → Text
 refusedLine k = labelled "refused" k ++ newline
 
 -- n, the number of points of S, and the mark
-abbrev pub firstLine : ℕ → ℕ → Text
-firstLine n m = labelled "n" n ++ labelled " points" m ++ labelled " mark" (mark n) ++ newline
+abbrev pub firstLine : ℕ → ℕ → Option ℕ → Text
+firstLine n c m = labelled "n" n ++ labelled " points" c ++ (ascii " mark" ++ degreeField m) ++ newline
 
 -- a degree, and the ranks of S, part 1 and part 0
 abbrev pub rankLine : ℕ → Ranks → Text
@@ -47,11 +47,6 @@ rankLines n rs = joined (λ d. rankLine d (getD rs d noRanks)) (below (n + 1))
 abbrev pub degreeLine : ℕ → ℕ → List ℕ → Text
 degreeLine k side w =
     labelled "degree" k ++ labelled " side" side ++ ascii " witness" ++ fields (select (member w) graded) ++ newline
-
--- a degree, or `none`, after a space
-abbrev pub degreeField : Option ℕ → Text
-degreeField none = ascii " none"
-degreeField (some k) = field k
 
 -- side 1's own degree, then side 0's
 abbrev pub sidesLine : Sides (Option ℕ) → Text

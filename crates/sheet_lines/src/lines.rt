@@ -1,5 +1,6 @@
 // The lines of the sheet. They are `pub` for sheet_text alone.
 ghost use mathlib.Core.Path.{_≡_};
+ghost use mathlib.Core.Option.{some};
 ghost use Prim.Native.Nat.{_+_, _≤_, _<_};
 ghost use lib.ListN.{length};
 ghost use Rattle.cube.specs.NumberLists.{below, select};
@@ -39,13 +40,13 @@ pub fn refused_line(text: &mut [u8], at: usize, number: u8) -> usize
 }
 
 // The number of taps, of points, and the mark.
-pub fn first_line(text: &mut [u8], at: usize, n: usize, count: usize) -> usize
-    requires { ⌜ (at + firstLineRoom ≤ length (now text)) × (n ≤ 9) ⌝ }
-    ensures { λ r. ⌜ Appends (firstLine n count) (now (text .entry)) (now (text .exit)) at r × (r ≤ at + firstLineRoom) ⌝ }
+pub fn first_line(text: &mut [u8], at: usize, n: usize, count: usize, mark: usize) -> usize
+    requires { ⌜ at + firstLineRoom ≤ length (now text) ⌝ }
+    ensures { λ r. ⌜ Appends (firstLine n count (some mark)) (now (text .entry)) (now (text .exit)) at r × (r ≤ at + firstLineRoom) ⌝ }
 {
     let points = append_labelled(text, at, b"n", n as u64);
-    let mark = append_labelled(text, points, b" points", count as u64);
-    let end = append_labelled(text, mark, b" mark", ((n + 1) / 2) as u64);
+    let of_mark = append_labelled(text, points, b" points", count as u64);
+    let end = append_labelled(text, of_mark, b" mark", mark as u64);
     end_line(text, end)
 }
 

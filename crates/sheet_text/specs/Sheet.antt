@@ -43,7 +43,7 @@ reportLines n s f j (some k) = degreeLine k (j .side) (ofSide (j .side) (j .witn
 -- the sheet of a judgement
 unfoldable pub judgementSheet : ℕ → List ℕ → List ℕ → Judgement → Text
 judgementSheet n s f j =
-    firstLine n (length (points s)) ++ rankLines n (j .ranks) ++ reportLines n s f j (j .degree) ++ additionsLine (j .additions)
+    firstLine n (length (points s)) (j .mark) ++ rankLines n (j .ranks) ++ reportLines n s f j (j .degree) ++ additionsLine (j .additions)
 
 -- the sheet of a filter
 abbrev pub filterSheet : ℕ → List ℕ → List ℕ → Text

@@ -61,7 +61,7 @@ fn filter_sheet(text: &mut [u8], n: usize, set: &[u8], table: &[u8]) -> usize
     match finding {
         Finding::Refused(x) => refused_line(text, 0, number(x)),
         Finding::Judged(found) => {
-            let first = first_line(text, 0, n, count(set));
+            let first = first_line(text, 0, n, count(set), found.mark);
             let report = rank_lines(text, first, n, ranks);
             let sides = report_line(text, report, found.degree, found.side, &one, &zero);
             let of_one = found.one;

@@ -47,7 +47,7 @@ fn accepted(file: &[u8]) -> Result<String, u8> {
     let (mut one, mut zero) = (vec![0; POINTS], vec![0; POINTS]);
     let filter = Filter { n, set: &set, table: &table };
     let judgement = judge(filter, &mut vec![0; WORKSPACE], &mut one, &mut zero)?;
-    let mut sheet = format!("n {n} points {} mark {}\n", points_of(&set).len(), n.div_ceil(2));
+    let mut sheet = format!("n {n} points {} mark {}\n", points_of(&set).len(), judgement.mark);
     for (d, [all, part_one, part_zero]) in judgement.ranks[..=n].iter().enumerate() {
         let _ = writeln!(sheet, "{d} {all} {part_one} {part_zero}");
     }

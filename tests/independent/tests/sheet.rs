@@ -1,4 +1,5 @@
 // The printed sheet of the independent implementation, against that of docs/SPECIFICATION.md, 'Sheet'.
+use independent::filter_file::Triple;
 use independent::samples::{LISTED_FILES, PRINTED_FILE};
 use independent::sheet::sheet;
 
@@ -21,6 +22,12 @@ fn the_printed_sheet() {
 }
 
 #[test]
+fn the_first_line_has_the_mark_of_the_set() {
+    let weight_2 = Triple { n: 4, set: vec![3, 5, 6, 9, 10, 12], table: vec![3, 5] };
+    assert_eq!(sheet(&weight_2.file()).lines().next(), Some("n 4 points 6 mark 1"));
+}
+
+#[test]
 fn a_refusal_is_one_line() {
     for (file, number) in LISTED_FILES.into_iter().filter(|(_, number)| *number != 0) {
         assert_eq!(sheet(file), format!("refused {number}\n"));
@@ -30,7 +37,7 @@ fn a_refusal_is_one_line() {
 #[test]
 fn a_degree_of_zero_has_no_sums_and_leaves_one_side_without() {
     let sheets = [[1, 1, 0, 0].as_slice(), &[1, 1, 0, 1, 0]].map(sheet);
-    let first = "n 1 points 1 mark 1\n";
+    let first = "n 1 points 1 mark 0\n";
     let zero = "0 1 0 1\n1 1 0 1\ndegree 0 side 1 witness 0\nsides 0 none\nadditions 0\n";
     let one = "0 1 1 0\n1 1 1 0\ndegree 0 side 0 witness 0\nsides none 0\nadditions 0\n";
     assert_eq!(sheets, [zero, one].map(|lines| format!("{first}{lines}")));

@@ -1,6 +1,7 @@
 -- What Judge answers is the judgement (judge-found), never a refusal; the lines are written one behind the other (appends-then), each within its room.
 use borrow.Author.Needs.{needs}
 use mathlib.Core.Path.{_≡_, sym, ap, _∙_}
+use mathlib.Core.Option.{some}
 use Prim.Native.Nat.{ℕ, _≤_, zero-le}
 use native.Mathlib.Omega.{arith}
 use lib.ListN.{length, length-replicate}
@@ -41,7 +42,7 @@ judgement c =
 first-line-requires : tie.Need-first-line-requires
 first-line-requires c κs =
     let s = c .before .before .before .before .before .before .before .before .before .before .before .before .before .before .before .before in
-    (omega (arith, s .pre .0), small s)
+    omega (arith, s .pre .0)
 
 rank-lines-requires : tie.Need-rank-lines-requires
 rank-lines-requires c κs =
@@ -108,8 +109,9 @@ returns-2 c =
     let f = r .before .before .before .before in
     let g = f .before .before .before .before in
     let s = g .before .before .before .before .before .before .before .before .before .before .before .before .before in
-    let first : Appends (firstLine (s .args .n) (length (points (s .args .set .now)))) (s .args .text .now) (f .first-line .last .0) 0 (f .first-line .result) =
-    appends-same (ap (firstLine (s .args .n)) (f .before .count .ensures .0)) (f .first-line .ensures .0) in
+    let mark = some (g .finding2 .given .0 .0 .mark) in
+    let first : Appends (firstLine (s .args .n) (length (points (s .args .set .now))) mark) (s .args .text .now) (f .first-line .last .0) 0 (f .first-line .result) =
+    appends-same (ap (λ c. firstLine (s .args .n) c mark) (f .before .count .ensures .0)) (f .first-line .ensures .0) in
     let inside : r .rank-lines .result ≤ length (r .rank-lines .last .0) =
     omega (arith, r .rank-lines .ensures .1, r .rank-lines .kept .0, f .first-line .ensures .1, f .first-line .kept .0, s .pre .0) in
     let report = appends-then inside (appends-then inside (d .report-line .ensures .0) (i .sides-line .ensures .0)) (u .sum-sections .ensures .0) in
