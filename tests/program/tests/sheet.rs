@@ -2,7 +2,7 @@
 use independent::filter_file::Triple;
 use independent::random::Random;
 use independent::rank::points_of;
-use independent::samples::{LISTED_FILES, PRINTED_FILE, Tally, pairs};
+use independent::samples::{LISTED_FILES, PRINTED_FILE, Tally, of_weights, pairs};
 use independent::sheet::sheet;
 use program::{limited, offer, printed, run_fed, sheet_of, sheet_program};
 use std::fs::File;
@@ -17,16 +17,32 @@ fn refusal(text: &str) -> u8 {
     text.strip_prefix("refused ").map_or(0, |number| number.trim_end().parse().expect("a number"))
 }
 
-// Both sheets of each input are the same. The numbers that were answered so often, 0 for a filter judged.
+// The number behind the word on the sheet, where the word stands first.
+fn number_behind(word: &str, text: &str) -> usize {
+    let behind = text.split_whitespace().skip_while(|found| *found != word).nth(1);
+    behind.expect("a number").parse().expect("a number")
+}
+
+// Both sheets of each input are the same, and the degree of a filter is not over the mark. The numbers that were
+// answered so often, 0 for a filter judged.
 fn compare(inputs: &[Vec<u8>], least: usize) -> Vec<usize> {
     let mut tally = Tally::default();
     for input in inputs {
         let text = sheet_of(input);
         assert!(text == sheet(input), "the sheet of {input:02x?} is\n{text}");
         let number = refusal(&text);
+        assert!(
+            number != 0 || number_behind("degree", &text) <= number_behind("mark", &text),
+            "over the mark:\n{text}"
+        );
         tally.count(if number == 0 { Ok(()) } else { Err(number) });
     }
     tally.numbers(least)
+}
+
+// The file of the set and the table of n taps.
+fn file(n: usize, set: &[u8], table: &[u8]) -> Vec<u8> {
+    Triple { n, set: points_of(set), table: points_of(table) }.file()
 }
 
 // So many files of each kind of set and each kind of table of n taps.
@@ -34,7 +50,7 @@ fn files(random: &mut Random, n: usize, count: usize) -> Vec<Vec<u8>> {
     let kinds = pairs(&[0, 1, 2, 3, 4, 5], &[0, 1, 2, 3, 4]);
     let drawn = kinds.repeat(count).into_iter().map(|(for_set, for_table)| {
         let (set, table) = (random.set(n, for_set), random.table(n, for_table));
-        Triple { n, set: points_of(&set), table: points_of(&table) }.file()
+        file(n, &set, &table)
     });
     drawn.collect()
 }
@@ -59,6 +75,28 @@ fn every_kind_of_filter_of_seven_to_nine_taps() {
     let mut random = Random(2);
     for (n, count) in [(7, 3), (8, 1), (9, 1)] {
         assert_eq!(compare(&files(&mut random, n, count), 30), [0]);
+    }
+}
+
+// Both sheets of each of the unions of weights of n taps, bit w for the weight w; the kinds of table take turns.
+fn compare_unions(random: &mut Random, n: usize, unions: impl Iterator<Item = usize>) {
+    let with_table = |(kind, weights)| file(n, &of_weights(n, weights), &random.table(n, kind));
+    let inputs: Vec<Vec<u8>> = unions.enumerate().map(with_table).collect();
+    assert_eq!(compare(&inputs, inputs.len()), [0]);
+}
+
+#[test]
+fn every_union_of_weights_of_up_to_six_taps() {
+    let mut random = Random(6);
+    (1..=6).for_each(|n| compare_unions(&mut random, n, 1..1 << (n + 1)));
+}
+
+#[test]
+fn every_weight_and_every_two_neighbours_of_seven_to_nine_taps() {
+    let mut random = Random(7);
+    for n in 7..=9 {
+        compare_unions(&mut random, n, (0..=n).map(|w| 1 << w));
+        compare_unions(&mut random, n, (0..n).map(|w| 3 << w));
     }
 }
 
