@@ -55,10 +55,10 @@ impl Slice {
         table_of(points.into_iter().take(self.ones()))
     }
 
-    // The bound for sets: the first degree at which twice the rank exceeds the number of points.
+    // The mark, the bound for sets, which Judge of the proved library answers with every table.
     pub fn mark(&self) -> usize {
-        let rank = |d: usize| library::rank(&self.set, self.n, d, &mut [0; 8192]).expect("accepted").rank;
-        (0..=self.n).find(|d| 2 * rank(*d) > self.points.len()).expect("at n the rank is the number of points")
+        let judged = library::judge(self.filter(&[0; 512]), &mut [0; 8192], &mut [0; 512], &mut [0; 512]);
+        judged.expect("accepted").mark
     }
 }
 

@@ -16,8 +16,9 @@ fn degree(slice: &Slice, table: &[u8]) -> usize {
     let answer = |judge: Judge| judge(slice.filter(table), &mut [0; 8192], &mut [0; 512], &mut [0; 512]);
     let found = answer(library::judge);
     assert_eq!(found, answer(judge), "n = {}, weight {}", slice.n, slice.k);
-    let degree = found.expect("accepted").degree;
-    assert!(degree <= slice.mark(), "n = {}, weight {}: over the mark", slice.n, slice.k);
+    let Judgement { degree, mark, .. } = found.expect("accepted");
+    assert!(degree <= mark, "n = {}, weight {}: over the mark", slice.n, slice.k);
+    assert_eq!(mark, slice.mark(), "n = {}, weight {}: another mark with another table", slice.n, slice.k);
     degree
 }
 
