@@ -1,4 +1,4 @@
-/* Reads a filter file, judges it, and prints the degree, the side and each side's own degree: judge FILE */
+/* Reads a filter file, judges it, and prints the mark, the degree, the side and each side's own degree: judge FILE */
 #include <ekthavrul.h>
 #include <inttypes.h>
 #include <stdio.h>
@@ -19,7 +19,7 @@ static void print_degree(uint32_t degree) {
         printf(" %" PRIu32, degree);
 }
 
-/* Prints the degree and the side of the filter, and on a line below side 1's own degree and side 0's. */
+/* Prints the mark; below it the degree and the side of the filter; and below these side 1's own degree and side 0's. */
 static int judge(const uint8_t *set, const uint8_t *table, size_t n) {
     static uint64_t workspace[EKTHAVRUL_WORKSPACE];
     uint8_t one[EKTHAVRUL_POINTS], zero[EKTHAVRUL_POINTS];
@@ -28,6 +28,7 @@ static int judge(const uint8_t *set, const uint8_t *table, size_t n) {
                                      one, sizeof one, zero, sizeof zero, report);
     if (status != EKTHAVRUL_ACCEPTED)
         return refused(status);
+    printf("mark %" PRIu32 "\n", report[EKTHAVRUL_MARK_AT]);
     printf("degree %" PRIu32 " side %" PRIu32 "\nsides", report[EKTHAVRUL_DEGREE_AT], report[EKTHAVRUL_SIDE_AT]);
     print_degree(report[EKTHAVRUL_DEGREE_ONE_AT]);
     print_degree(report[EKTHAVRUL_DEGREE_ZERO_AT]);

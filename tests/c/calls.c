@@ -92,7 +92,7 @@ static uint8_t judge(size_t n, uint32_t *report) {
 static void check_report(void) {
     const uint32_t wanted[EKTHAVRUL_REPORT] = {
         1, 1, 1, 3, 1, 3, 4, 1, 3, [EKTHAVRUL_DEGREE_AT] = 1, [EKTHAVRUL_SIDE_AT] = 1, [EKTHAVRUL_ADDITIONS_AT] = 19,
-        [EKTHAVRUL_DEGREE_ONE_AT] = 1, [EKTHAVRUL_DEGREE_ZERO_AT] = 2};
+        [EKTHAVRUL_DEGREE_ONE_AT] = 1, [EKTHAVRUL_DEGREE_ZERO_AT] = 2, [EKTHAVRUL_MARK_AT] = 1};
     uint32_t report[EKTHAVRUL_REPORT + 1], entry[EKTHAVRUL_REPORT + 1];
     const uint32_t *last = report + 2 * EKTHAVRUL_RANKS_OF_DEGREE;
     memset(report, 77, sizeof report);
@@ -138,6 +138,16 @@ static void check_own_degrees(const int *points, uint32_t of_one, uint32_t of_ze
            what);
 }
 
+/* Judge of the six points of weight 2 in four taps: their rank at degree 1 is 4, so that the mark is 1. */
+static void check_mark(void) {
+    uint32_t report[EKTHAVRUL_REPORT];
+    mark(set, (int[]){3, 5, 6, 9, 10, 12, -1});
+    mark(table, (int[]){3, 5, -1});
+    expect(judge(4, report) == 0 && report[EKTHAVRUL_RANKS_OF_DEGREE + EKTHAVRUL_RANK_SET_AT] == 4 &&
+               report[EKTHAVRUL_MARK_AT] == 1 && report[EKTHAVRUL_DEGREE_AT] == 1,
+           "Judge, weight 2 in four taps");
+}
+
 /* Makes every check; the status is 0 if there was no fault. */
 int main(void) {
     check_read();
@@ -149,5 +159,6 @@ int main(void) {
     check_certify();
     check_own_degrees((int[]){-1}, 0, EKTHAVRUL_NO_DEGREE, "Judge, case 8");
     check_own_degrees((int[]){0, -1}, EKTHAVRUL_NO_DEGREE, 0, "Judge, case 9");
+    check_mark();
     return faults != 0;
 }
