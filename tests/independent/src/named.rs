@@ -115,6 +115,7 @@ pub fn examples() -> Vec<Named> {
             |a| sum_of_products(7, a, &[&[1], &[2], &[3, 4], &[5, 6, 7]]),
         ),
         named("balanced-on-weight-4-of-eight", 8, |a| weight(a) == 4, perfectly_balanced),
+        named("points-0-to-16-of-five", 5, |a| a <= 16, |a| sum_of_products(5, a, &[&[2, 3], &[4, 5]])),
         named("nine-taps", 9, |_| true, |a| sum_of_products(9, a, &[&[1, 2], &[3]])),
         named("single-point", 6, |a| a == 42, |a| a == 42),
         damaged,
