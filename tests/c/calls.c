@@ -1,4 +1,4 @@
-/* Calls every function of the header with starred cases of the specification, and once so that it refuses. */
+/* Calls every function of the header with numbered cases of the specification, and once so that it refuses. */
 #include <ekthavrul.h>
 #include <stdio.h>
 #include <string.h>
@@ -21,7 +21,7 @@ static void expect(int condition, const char *what) {
 }
 
 /* The mask becomes 1 at the points of the list, which ends in -1, and 0 elsewhere. */
-static void mark(uint8_t *mask, const int *points) {
+static void choose(uint8_t *mask, const int *points) {
     memset(mask, 0, POINTS);
     for (; *points >= 0; points++)
         mask[*points] = 1;
@@ -60,12 +60,12 @@ static void check_write(void) {
 static void check_normal_form(void) {
     uint8_t bytes[POINTS], wanted[POINTS];
     uint32_t degree = 77;
-    mark(bytes, (int[]){7, -1});
-    mark(wanted, (int[]){7, -1});
+    choose(bytes, (int[]){7, -1});
+    choose(wanted, (int[]){7, -1});
     expect(ekthavrul_convert(bytes, POINTS, 3) == 0 && memcmp(bytes, wanted, POINTS) == 0, "Convert, case 1");
     expect(ekthavrul_degree(bytes, POINTS, 3, &degree) == 0 && degree == 3, "Degree, case 1");
     expect(ekthavrul_convert(bytes, POINTS - 1, 3) == EKTHAVRUL_LENGTH, "Convert refuses a length");
-    mark(bytes, (int[]){-1});
+    choose(bytes, (int[]){-1});
     expect(ekthavrul_degree(bytes, POINTS, 1, &degree) == EKTHAVRUL_ZERO_POLYNOMIAL && degree == 3, "Degree, case 3");
 }
 
@@ -131,21 +131,21 @@ static void check_certify(void) {
 /* Judge of the point 0 of one tap, with f one at the listed points: side 1's own degree and side 0's. */
 static void check_own_degrees(const int *points, uint32_t of_one, uint32_t of_zero, const char *what) {
     uint32_t report[EKTHAVRUL_REPORT];
-    mark(set, (int[]){0, -1});
-    mark(table, points);
+    choose(set, (int[]){0, -1});
+    choose(table, points);
     expect(judge(1, report) == 0 && report[EKTHAVRUL_DEGREE_ONE_AT] == of_one &&
                report[EKTHAVRUL_DEGREE_ZERO_AT] == of_zero,
            what);
 }
 
-/* Judge of the six points of weight 2 in four taps: their rank at degree 1 is 4, so that the mark is 1. */
+/* Judge, case 11, the six points of weight 2 in four taps: their rank at degree 1 is 4, so that the mark is 1. */
 static void check_mark(void) {
     uint32_t report[EKTHAVRUL_REPORT];
-    mark(set, (int[]){3, 5, 6, 9, 10, 12, -1});
-    mark(table, (int[]){3, 5, -1});
+    choose(set, (int[]){3, 5, 6, 9, 10, 12, -1});
+    choose(table, (int[]){3, 5, 6, -1});
     expect(judge(4, report) == 0 && report[EKTHAVRUL_RANKS_OF_DEGREE + EKTHAVRUL_RANK_SET_AT] == 4 &&
                report[EKTHAVRUL_MARK_AT] == 1 && report[EKTHAVRUL_DEGREE_AT] == 1,
-           "Judge, weight 2 in four taps");
+           "Judge, case 11");
 }
 
 /* Makes every check; the status is 0 if there was no fault. */

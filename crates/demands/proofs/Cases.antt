@@ -1,4 +1,4 @@
--- The starred cases of docs/SPECIFICATION.md, 'Cases', hold: one test that antt computes.
+-- The numbered cases of docs/SPECIFICATION.md, 'Cases', hold: one test that antt computes.
 --   cases-hold   each case of the list
 use mathlib.Core.Path.{_≡_, refl}
 use mathlib.Core.Bool.{true, xor}

@@ -1,4 +1,4 @@
--- The demands, the sentences and the promises of the requests beside them hold, and so do the starred cases.
+-- The demands, the sentences and the promises of the requests beside them hold, and so do the numbered cases.
 pub mod Cases
 pub mod Demand1
 pub mod Demand2

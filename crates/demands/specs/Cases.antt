@@ -1,8 +1,8 @@
--- The starred cases of docs/SPECIFICATION.md, 'Cases', as one list of inputs and expected answers.
+-- The numbered cases of docs/SPECIFICATION.md, 'Cases', as one list of inputs and expected answers.
 --   Fact            an answer that is expected
 --   Case            the number of taps, the points of the set, the points where the table is 1, and the expected answers
 --   sameList xs ys  whether two lists are the same
---   isDegree k o    whether a degree is reported, and is k
+--   isDegree k o    whether a degree is given, and is k
 --   onAccepted t o  whether an outcome accepts, with values that pass the test t
 --   isRefused k o   whether an outcome is a refusal by the number k
 --   textOf ls       the text of lines
@@ -43,6 +43,8 @@ pub data Fact : Type 0 where
   ranks : ℕ → ℕ → ℕ → ℕ → Fact
   -- at the degrees from 0 to n, Judge gives the set these ranks
   setRanks : List ℕ → Fact
+  -- Judge gives the set this mark
+  mark : ℕ → Fact
   -- Judge reports this degree
   degree : ℕ → Fact
   -- and this side
@@ -66,7 +68,7 @@ sameList [] (y ∷ ys) = false
 sameList (x ∷ xs) [] = false
 sameList (x ∷ xs) (y ∷ ys) = eqb x y && sameList xs ys
 
--- a degree is reported, and is k
+-- a degree is given, and is k
 unfoldable pub isDegree : ℕ → Option ℕ → Bool
 isDegree k none = false
 isDegree k (some j) = eqb j k
@@ -93,6 +95,7 @@ holdsFact c s f o (noDegree k) = onAccepted (λ x. isRefused k (degreeOutcome (c
 holdsFact c s f o (rank d r) = onAccepted (λ x. eqb (x .rank) r) (rankOutcome graded s (c .taps) d 8192)
 holdsFact c s f o (ranks d x y z) = onAccepted (λ j. eqb (setRank j d) x && eqb (partRanks j d .one) y && eqb (partRanks j d .zero) z) o
 holdsFact c s f o (setRanks rs) = onAccepted (λ j. sameList (map (setRank j) (below (c .taps + 1))) rs) o
+holdsFact c s f o (mark m) = onAccepted (λ j. isDegree m (j .mark)) o
 holdsFact c s f o (degree k) = onAccepted (λ j. isDegree k (j .degree)) o
 holdsFact c s f o (side i) = onAccepted (λ j. eqb (j .side) i) o
 holdsFact c s f o (witness us) = onAccepted (λ j. sameList (select (member (ofSide (j .side) (j .witnesses))) graded) us) o
@@ -115,7 +118,7 @@ unfoldable pub holdAll : List Case → Bool
 holdAll [] = true
 holdAll (c ∷ cs) = holds c && holdAll cs
 
--- cases 1 to 10
+-- cases 1 to 11
 unfoldable pub cases : List Case
 cases =
     -- case 1
@@ -155,14 +158,14 @@ cases =
       taps = 3;
       set = 0 ∷ 1 ∷ 2 ∷ 3 ∷ 4 ∷ 5 ∷ 6 ∷ 7 ∷ [];
       table = 3 ∷ 5 ∷ 6 ∷ 7 ∷ [];
-      facts = ranks 1 4 4 4 ∷ degree 2 ∷ side 1 ∷ [];
+      facts = ranks 1 4 4 4 ∷ mark 2 ∷ degree 2 ∷ side 1 ∷ [];
     }
     -- case 7
     ∷ record {
       taps = 4;
       set = 0 ∷ 3 ∷ 5 ∷ 6 ∷ 9 ∷ 10 ∷ 12 ∷ 15 ∷ [];
       table = 6 ∷ 10 ∷ 12 ∷ 15 ∷ [];
-      facts = ranks 1 4 4 4 ∷ degree 2 ∷ [];
+      facts = ranks 1 4 4 4 ∷ mark 2 ∷ degree 2 ∷ [];
     }
     -- case 8
     ∷ record {
@@ -193,5 +196,35 @@ cases =
           ∷ [];
     }
     -- case 10
-    ∷ record { taps = 2; set = 1 ∷ 2 ∷ []; table = 1 ∷ []; facts = setRanks (1 ∷ 2 ∷ 2 ∷ []) ∷ degree 1 ∷ witness (0 ∷ 1 ∷ []) ∷ [] }
+    ∷ record { taps = 2; set = 1 ∷ 2 ∷ []; table = 1 ∷ []; facts = setRanks (1 ∷ 2 ∷ 2 ∷ []) ∷ mark 1 ∷ degree 1 ∷ witness (0 ∷ 1 ∷ []) ∷ [] }
+    -- case 11: weight 2 in four taps
+    ∷ record {
+      taps = 4;
+      set = 3 ∷ 5 ∷ 6 ∷ 9 ∷ 10 ∷ 12 ∷ [];
+      table = 3 ∷ 5 ∷ 6 ∷ [];
+      facts =
+          setRanks (1 ∷ 4 ∷ 6 ∷ 6 ∷ 6 ∷ [])
+          ∷ mark 1
+          ∷ printed
+          (4 ∷ 6 ∷ 3 ∷ 2 ∷ 1 ∷ 3 ∷ 1 ∷ 2 ∷ 3 ∷ 3 ∷ 2 ∷ 1 ∷ [])
+          (
+          "n 4 points 6 mark 1"
+          ∷ "0 1 1 1"
+          ∷ "1 4 3 3"
+          ∷ "2 6 3 3"
+          ∷ "3 6 3 3"
+          ∷ "4 6 3 3"
+          ∷ "degree 1 side 1 witness 1 2 4"
+          ∷ "sides 1 1"
+          ∷ "side 1 point 9 sum 3"
+          ∷ "side 1 point 10 sum 3"
+          ∷ "side 1 point 12 sum 3"
+          ∷ "side 0 point 3 sum 9"
+          ∷ "side 0 point 5 sum 9"
+          ∷ "side 0 point 6 sum 9"
+          ∷ "additions 73"
+          ∷ []
+          )
+          ∷ [];
+    }
     ∷ []

@@ -1,4 +1,4 @@
--- The demands on the whole, the sentences on ranks and judgements and the promises of the requests beside them, and the starred cases.
+-- The demands on the whole, the sentences on ranks and judgements and the promises of the requests beside them, and the numbered cases.
 pub mod Cases
 pub mod Demands
 pub mod JudgementWords

@@ -1,3 +1,3 @@
 // The demands on the whole, the sentences on ranks and judgements and the promises of the requests beside them, and the
-// starred cases: docs/SPECIFICATION.md, 'Demands', 'Elimination' to 'Hand over', 'Write', 'Sheet' and 'Cases'. Definitions
+// numbered cases: docs/SPECIFICATION.md, 'Demands', 'Elimination' to 'Hand over', 'Write', 'Sheet' and 'Cases'. Definitions
 // and laws alone.

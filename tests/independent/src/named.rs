@@ -42,8 +42,8 @@ fn listed() -> impl Iterator<Item = Named> {
     })
 }
 
-// The starred cases of docs/SPECIFICATION.md, 'Cases', that are filters.
-fn starred() -> [Named; 6] {
+// The numbered cases of docs/SPECIFICATION.md, 'Cases', that are filters.
+fn numbered() -> [Named; 7] {
     [
         named("case-5", 2, |_| true, |a| a == 3),
         named("case-6", 3, |_| true, |a| weight(a) >= 2),
@@ -51,6 +51,7 @@ fn starred() -> [Named; 6] {
         named("case-8", 1, |a| a == 0, |_| false),
         named("case-9", 1, |a| a == 0, |a| a == 0),
         named("case-10", 2, |a| a == 1 || a == 2, |a| a == 1),
+        named("case-11", 4, |a| weight(a) == 2, |a| [3, 5, 6].contains(&a)),
     ]
 }
 
@@ -97,7 +98,7 @@ fn drawn() -> impl Iterator<Item = Named> {
 
 // What the program `cases` runs on.
 pub fn cases() -> Vec<Named> {
-    listed().chain(starred()).chain(drawn()).collect()
+    listed().chain(numbered()).chain(drawn()).collect()
 }
 
 // The examples.

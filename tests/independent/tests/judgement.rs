@@ -1,4 +1,4 @@
-// Judge, Certify and Hand over of the independent implementation, against the starred cases, evaluation and sums of
+// Judge, Certify and Hand over of the independent implementation, against the numbered cases, evaluation and sums of
 // rows.
 use independent::filter::Filter;
 use independent::judgement::{Judgement, certify, hand_over, judge};
@@ -54,6 +54,13 @@ fn starred_case_10() {
     let (judgement, witnesses) = judged(2, &listed(2, &[1, 2]), &listed(2, &[1]));
     assert_eq!([0, 1, 2].map(|d| judgement.ranks[d][0]), [1, 2, 2]);
     assert_eq!((judgement.degree, judgement.mark, &witnesses[0][..]), (1, 1, &[0, 1][..]));
+}
+
+#[test]
+fn case_11() {
+    let (judgement, witnesses) = judged(4, &listed(4, &[3, 5, 6, 9, 10, 12]), &listed(4, &[3, 5, 6]));
+    assert_eq!([0, 1, 2, 3, 4].map(|d| judgement.ranks[d][0]), [1, 4, 6, 6, 6]);
+    assert_eq!((judgement.mark, judgement.degree, &witnesses[0][..]), (1, 1, &[1, 2, 4][..]));
 }
 
 // The exponents are a polynomial of degree k that is zero on the part and not on all of the set.

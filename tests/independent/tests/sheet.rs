@@ -23,8 +23,8 @@ fn the_printed_sheet() {
 
 #[test]
 fn the_first_line_has_the_mark_of_the_set() {
-    let weight_2 = Triple { n: 4, set: vec![3, 5, 6, 9, 10, 12], table: vec![3, 5] };
-    assert_eq!(sheet(&weight_2.file()).lines().next(), Some("n 4 points 6 mark 1"));
+    let case_11 = Triple { n: 4, set: vec![3, 5, 6, 9, 10, 12], table: vec![3, 5, 6] };
+    assert_eq!(sheet(&case_11.file()).lines().next(), Some("n 4 points 6 mark 1"));
 }
 
 #[test]

@@ -90,7 +90,7 @@ fn the_stored_files() {
         comparison.file(&fs::read(root().join(&stored.path)).expect("the stored file"));
     }
     assert_eq!(comparison.tally.numbers(1), [0, 2, 3, 4, 5, 6, 7]);
-    assert_eq!(comparison.tally.numbers(40), [0]);
+    assert_eq!(comparison.tally.numbers(41), [0]);
 }
 
 #[test]

@@ -95,7 +95,7 @@ fn the_filters_of_the_stored_files() {
             written += 1;
         }
     }
-    assert!(written >= 40);
+    assert!(written >= 41);
 }
 
 // Outputs of every length up to three bytes past the file, which is refused for want of room or written.
