@@ -11,5 +11,7 @@ pub mod CertifyWords
 pub mod HandOverWords
 pub mod SheetWords
 pub mod JudgementWords
+pub mod Mark
 pub mod Sides
+pub mod Unreached
 pub mod Write

@@ -2,5 +2,6 @@
 pub mod Cases
 pub mod Demands
 pub mod JudgementWords
+pub mod Mark
 pub mod Sides
 pub mod Write
