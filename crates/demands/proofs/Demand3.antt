@@ -1,6 +1,6 @@
 -- Demand 3 holds.
 --   demand3   every sentence of demand 3
-use mathlib.Core.List.{List, List·Memᴰ}
+use mathlib.Core.List.{List}
 use mathlib.Core.Path.{_≡_}
 use mathlib.Core.Bool.{false}
 use mathlib.Core.Logic.{_↔_, inl, inr}
@@ -11,7 +11,6 @@ use lib.Pow.{pow-mono}
 use Rattle.cube.specs.NumberLists.{Inside, isEmpty}
 use Rattle.cube.specs.Cube.{size}
 use Rattle.cube.specs.Mask.{points}
-use Rattle.cube.proofs.Listed.{some-member}
 use Rattle.cube.proofs.Masks.{points-inside}
 use Rattle.order.specs.BuiltIn.{graded}
 use Rattle.order.proofs.BuiltIn.{graded-is-graded}
@@ -22,7 +21,7 @@ use Rattle.immunity.specs.Judgement.{EqualRanks, reported, judged, GivenEqual}
 use Rattle.immunity.specs.Certificate.{Certifies, certificate}
 use Rattle.immunity.proofs.PartPoints.{part-rising}
 use Rattle.immunity.proofs.Given.{equal-given}
-use Rattle.immunity.proofs.Reported.{FirstDiffers, equal-just, reports}
+use Rattle.immunity.proofs.Reported.{FirstDiffers, equal-just, filter-reports}
 use Rattle.immunity.proofs.WitnessBuffers.{witness-degree, buffer-holds}
 use Rattle.immunity.proofs.Certificates.{certificate-is, is-certifies}
 use Rattle.judge.proofs.Passed.{judge-accepted}
@@ -33,16 +32,13 @@ use Rattle.demands.specs.Demands.{Judgement3, Demand3}
 -- demand 3 of one n, set and table
 judgement3 : (n : ℕ) (s f : List ℕ) → Filter n s f → isEmpty (points s) ≡ false → Judgement3 n s f (judged graded n s f)
 unfolding judged
-judgement3 n s f p has = go (reports graded-is-graded small s f inside (point .0) (point .1))
+judgement3 n s f p has = go (filter-reports graded-is-graded n s f p has)
   where
     small : n ≤ 9
     small = few-taps n s f p
 
     inside : Inside (size n) (points s)
     inside = points-inside n s (p .set-formed)
-
-    point : (a : ℕ) × List·Memᴰ a (points s)
-    point = some-member (points s) has
 
     -- the ranks given are equal exactly where the ranks are
     given : (side d : ℕ) → side ≤ 1 → d ≤ n → GivenEqual (judged graded n s f) side d ↔ EqualRanks graded n s f side d

@@ -13,8 +13,8 @@ use borrow.Author.Tests.{lt-leb}
 use Rattle.cube.specs.NumberLists.{upFrom, below, isEmpty}
 use Rattle.cube.specs.Cube.{size}
 use Rattle.cube.specs.Mask.{wellFormed, points, byte, mask}
-use Rattle.cube.proofs.Listed.{lists-member, some-member}
-use Rattle.cube.proofs.Masks.{length-from, value-at, formed-says, points-inside}
+use Rattle.cube.proofs.Listed.{lists-member}
+use Rattle.cube.proofs.Masks.{length-from, value-at, formed-says}
 use Rattle.cube.proofs.MaskOf.{length-mask, mask-well-formed}
 use Rattle.order.specs.Order.{columns}
 use Rattle.order.specs.BuiltIn.{graded}
@@ -41,7 +41,7 @@ use Rattle.immunity.specs.Certificate.{certificate}
 use Rattle.immunity.proofs.PartPoints.{part-among}
 use Rattle.immunity.proofs.Equal.{equal-sums}
 use Rattle.immunity.proofs.Given.{equal-given}
-use Rattle.immunity.proofs.Reported.{unequal-differs, equal-differs, reports}
+use Rattle.immunity.proofs.Reported.{unequal-differs, equal-differs, filter-reports}
 use Rattle.immunity.proofs.Witnesses.{is-unique}
 use Rattle.immunity.proofs.WitnessBuffers.{witness-given, witness-zeros, buffer-holds}
 use Rattle.judge.specs.Judge.{JudgeAccepts}
@@ -113,11 +113,8 @@ words n s f k p has is = record {
     small : n ≤ 9
     small = few-taps n s f p
 
-    point : (a : ℕ) × List·Memᴰ a (points s)
-    point = some-member (points s) has
-
     low : k ≤ n
-    low = let (first, same, r) = reports graded-is-graded small s f (points-inside n s (p .set-formed)) (point .0) (point .1) in let q : k ≡ first = cc in omega (arith, r .within)
+    low = let (first, same, r) = filter-reports graded-is-graded n s f p has in let q : k ≡ first = cc in omega (arith, r .within)
 
     given : (i d : ℕ) → i ≤ 1 → d ≤ n → GivenEqual (judged graded n s f) i d ↔ EqualRanks graded n s f i d
     given i d l m = equal-given graded n s f d m small i l

@@ -12,7 +12,6 @@ use lib.ListN.{length}
 use Rattle.cube.specs.NumberLists.{lists, Inside, isEmpty}
 use Rattle.cube.specs.Cube.{size}
 use Rattle.cube.specs.Mask.{points, mask}
-use Rattle.cube.proofs.Listed.{some-member}
 use Rattle.cube.proofs.Masks.{points-inside}
 use Rattle.order.specs.BuiltIn.{graded}
 use Rattle.order.proofs.BuiltIn.{graded-is-graded}
@@ -29,7 +28,7 @@ use Rattle.immunity.specs.Mark.{markOf}
 use Rattle.immunity.specs.Judgement.{reported, sideDegree, Judgement, judged, setRank, GivenEqual}
 use Rattle.immunity.proofs.Given.{set-given, equal-given}
 use Rattle.immunity.proofs.Mark.{mark-first, mark-exists, mark-all, equal-most, reported-mark}
-use Rattle.immunity.proofs.Reported.{FirstDiffers, reports}
+use Rattle.immunity.proofs.Reported.{filter-reports}
 use Rattle.immunity.proofs.SideDegrees.{side-lowest, sides-smaller, sides-one}
 use Rattle.judge.specs.Judge.{judgeOutcome, judgementOf, found, JudgeAccepts}
 use Rattle.judge.proofs.Passed.{accepted-filter, judge-accepted, judge-accepts, found-judged}
@@ -43,8 +42,7 @@ use Rattle.demands.proofs.Unreached.{seventeen, seventeen-filter, seven
 -- the reported degree of a filter is at most the mark on its set
 never-over : (n : ℕ) (s f : List ℕ) → Filter n s f → isEmpty (points s) ≡ false → (k m : ℕ) → reported graded n s f ≡ some k → markOf graded n s ≡ some m → k ≤ m
 never-over n s f p has k m h e =
-    let (a, point) = some-member (points s) has in
-    let (i, is, r) = reports graded-is-graded (few-taps n s f p) s f (points-inside n s (p .set-formed)) a point in
+    let (i, is, r) = filter-reports graded-is-graded n s f p has in
     let same : k ≡ i = cc in
     rw same (reported-mark graded n s f (p .table-formed) i m r e)
 
@@ -60,10 +58,6 @@ module _ (n : ℕ) (s f : List ℕ) (p : Filter n s f) (has : isEmpty (points s)
   -- the points of the set are points of n taps
   inside : Inside (size n) (points s)
   inside = points-inside n s (p .set-formed)
-
-  -- the reported degree
-  report : (k : ℕ) × (reported graded n s f ≡ some k) × FirstDiffers graded n s f k
-  report = let (a, point) = some-member (points s) has in reports graded-is-graded small s f inside a point
 
   -- the rank of the set that the judgement gives
   given : (d : ℕ) → d ≤ n → setRank j d ≡ rankOf graded n d (points s)
@@ -94,7 +88,7 @@ module _ (n : ℕ) (s f : List ℕ) (p : Filter n s f) (has : isEmpty (points s)
   smallest : (side other d : ℕ) → side ≤ 1 → other ≤ 1 → other ≢ side → sideDegree graded n s f side ≡ some d
       → ((e : ℕ) → sideDegree graded n s f other ≡ some e → d ≤ e) → (m : ℕ) → markOf graded n s ≡ some m → d ≤ m
   smallest side other d l l′ apart own least m e =
-      let (k, is, r) = report in
+      let (k, is, r) = filter-reports graded-is-graded n s f p has in
       let (i, u, of-k) = sides-one graded n s f k r in
       elim (ℕ-discrete i side) [
         | yes q ↦ (let same : d ≡ k = cc in rw same (never-over n s f p has k m is e))
@@ -105,7 +99,7 @@ module _ (n : ℕ) (s f : List ℕ) (p : Filter n s f) (has : isEmpty (points s)
   mark-words : MarkWords n s f j
   unfolding judged
   mark-words =
-      let (k, is, r) = report in
+      let (k, is, r) = filter-reports graded-is-graded n s f p has in
       let (side, l, of-k) = sides-one graded n s f k r in
       let own : (i : ℕ) → i ≤ 1 → ofSide i (j .degrees) ≡ sideDegree graded n s f i = of-both (sideDegree graded n s f) in
       let w : LowestDegree n (part side s f) (points s) k = side-lowest graded-is-graded small s f side k .0 of-k in
@@ -128,7 +122,7 @@ below-mark : (f : List ℕ) (j : Judgement) → JudgeAccepts graded 5 seventeen 
 unfolding judged
 below-mark f j e =
     let (filter, has, is) = judge-accepted graded 5 seventeen f j e in
-    let (i, q, r) = report 5 seventeen f filter has in
+    let (i, q, r) = filter-reports graded-is-graded 5 seventeen f filter has in
     let low : i ≤ 1 = degree-most f i r in
     (sym (ap (λ (x : Judgement). x .mark) is) ∙ seventeen-mark, λ k h. let same : k ≡ i = cc (sym q ∙ ap (λ (x : Judgement). x .degree) is ∙ h) in omega arith)
 

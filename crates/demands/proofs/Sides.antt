@@ -21,7 +21,7 @@ use Rattle.filter.proofs.Filters.{few-taps}
 use Rattle.filter.proofs.Sides.{of-both}
 use Rattle.immunity.specs.Judgement.{EqualRanks, reported, sideDegree, Judgement, judged, GivenEqual}
 use Rattle.immunity.proofs.Given.{equal-given}
-use Rattle.immunity.proofs.Reported.{FirstDiffers, reports}
+use Rattle.immunity.proofs.Reported.{FirstDiffers, filter-reports}
 use Rattle.immunity.proofs.SideDegrees.{side-first, side-equal, side-annihilates, side-lowest, side-whole, side-other, sides-smaller, sides-one, side-is-1}
 use Rattle.judge.proofs.Passed.{judge-accepted, found-judged}
 use Rattle.text.specs.Text.{Text}
@@ -62,7 +62,7 @@ module _ (n : ℕ) (s f : List ℕ) (p : Filter n s f) (has : isEmpty (points s)
   -- each sentence, of one n, set and table
   sides-words : SidesWords n s f j
   unfolding judged
-  sides-words = go (reports graded-is-graded small s f inside (point .0) (point .1))
+  sides-words = go (filter-reports graded-is-graded n s f p has)
     where
       point : (a : ℕ) × List·Memᴰ a (points s)
       point = some-member (points s) has

@@ -5,6 +5,7 @@
 --   equal-just        equal ranks mean that there is no annihilator up to the degree
 --   outside-differs   at degree n a side differs whose part misses a point of the set
 --   reports           a degree is reported, and is that
+--   filter-reports    the same of a filter whose set has a point
 use mathlib.Core.Path.{_≡_, refl, sym, _∙_}
 use mathlib.Core.Bool.{Bool, true, false, _||_, or-true, false≢true}
 use mathlib.Core.List.{List, List·Memᴰ}
@@ -16,16 +17,19 @@ use native.Mathlib.Decide.{decLt}
 use lib.Dec.{eqb}
 use lib.ListN.{getD}
 use borrow.Author.Tests.{eqb-true, eq-eqb, ne-eqb, not-false}
-use Rattle.cube.specs.NumberLists.{below, Inside}
+use Rattle.cube.specs.NumberLists.{below, isEmpty, Inside}
 use Rattle.cube.specs.Cube.{size}
 use Rattle.cube.specs.Mask.{points}
 use Rattle.order.specs.Order.{Graded}
-use Rattle.cube.proofs.Listed.{member-select}
+use Rattle.cube.proofs.Listed.{member-select, some-member}
+use Rattle.cube.proofs.Masks.{points-inside}
 use Rattle.gf2.proofs.Each.{member-each}
 use Rattle.polynomial.specs.Polynomial.{Polynomial, value, UpTo}
 use Rattle.polynomial.proofs.Value.{only, only-value, up-to-all}
 use Rattle.matrix.proofs.Rising.{below-rising}
+use Rattle.filter.specs.Filter.{Filter}
 use Rattle.filter.specs.Part.{part}
+use Rattle.filter.proofs.Filters.{few-taps}
 use Rattle.immunity.specs.Judgement.{EqualRanks, differs, eitherDiffers, reported}
 use Rattle.immunity.specs.Annihilator.{Annihilator}
 use Rattle.immunity.proofs.First.{First, first-found}
@@ -113,3 +117,8 @@ module _ {o : List ℕ} (g : Graded o) {n : ℕ} (small : n ≤ 9) (s f : List �
         go r =
             let up : r .place ≤ n = degree-below n (r .place) .0 (r .member) in
             (r .place, r .is, first-reports (r .place) up (λ d i. r .before d (degree-below n d .1 (omega arith)) i) (r .passes))
+
+-- of a filter whose set has a point a degree is reported, and is that
+pub filter-reports : {o : List ℕ} → Graded o → (n : ℕ) (s f : List ℕ) → Filter n s f → isEmpty (points s) ≡ false
+    → (k : ℕ) × (reported o n s f ≡ some k) × FirstDiffers o n s f k
+filter-reports g n s f p has = let (a, point) = some-member (points s) has in reports g (few-taps n s f p) s f (points-inside n s (p .set-formed)) a point

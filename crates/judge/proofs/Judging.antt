@@ -24,7 +24,6 @@ use Rattle.refusal.proofs.Verdicts.{verdict-refuses, verdict-passes}
 use Rattle.cube.specs.NumberLists.{below, isEmpty, Inside}
 use Rattle.cube.specs.Cube.{size}
 use Rattle.cube.specs.Mask.{points, byte, mask}
-use Rattle.cube.proofs.Listed.{some-member}
 use Rattle.cube.proofs.Masks.{value-at, points-inside}
 use Rattle.order.specs.Order.{Graded}
 use Rattle.packed.specs.Packed.{zeros}
@@ -51,7 +50,7 @@ use Rattle.immunity.proofs.FirstDegree.{degree-below}
 use Rattle.immunity.proofs.Given.{ranks-given, set-given}
 use Rattle.immunity.proofs.Mark.{mark-exists}
 use Rattle.immunity.proofs.NewPoint.{new-point-none}
-use Rattle.immunity.proofs.Reported.{reports}
+use Rattle.immunity.proofs.Reported.{filter-reports}
 use Rattle.judge.specs.declared.JudgeAnswer.{JudgeAnswer}
 use Rattle.judge.specs.declared.Report.{Report}
 use Rattle.judge.specs.declared.Finding.the-variants.{Refused, Judged}
@@ -146,8 +145,7 @@ module _ {o : List ℕ} (g : Graded o) {n : ℕ} {s f : List ℕ} (filter : Filt
     -- a degree is reported, and it is the one found
     is-reported : reported o n s f ≡ some k
     is-reported =
-        let (a, point) = some-member (points s) some-point in
-        let (j, is, _) = reports g small s f inside a point in
+        let (j, is, _) = filter-reports g n s f filter some-point in
         is ∙ ap some (sym (r j (first-reported o n s f small (ranks-judged o n s f p h) ∙ is)))
 
     -- what the ranks show is the mark: at degree n the rank of the set is the number of its points

@@ -5,7 +5,7 @@
 --   certified-is    and writes the certificate
 use mathlib.Core.Path.{_≡_, sym, ap, ap₂, _∙_}
 use mathlib.Core.Bool.{false}
-use mathlib.Core.List.{List, List·Memᴰ}
+use mathlib.Core.List.{List}
 use mathlib.Core.Option.{some}
 use Prim.Native.Nat.{ℕ, _≤_, _<_}
 use native.Mathlib.Omega.{arith}
@@ -13,16 +13,13 @@ use Rattle.refusal.specs.Outcome.{Outcome, accepted, leftBy}
 use Rattle.refusal.specs.declared.Refusal.{Refusal}
 use Rattle.cube.specs.NumberLists.{isEmpty}
 use Rattle.cube.specs.Mask.{points}
-use Rattle.cube.proofs.Listed.{some-member}
-use Rattle.cube.proofs.Masks.{points-inside}
 use Rattle.order.specs.BuiltIn.{graded}
 use Rattle.order.proofs.BuiltIn.{graded-is-graded}
 use Rattle.filter.specs.Sides.{Sides}
 use Rattle.filter.specs.Filter.{Filter}
-use Rattle.filter.proofs.Filters.{few-taps}
 use Rattle.immunity.specs.Judgement.{reported, judged}
 use Rattle.immunity.specs.Certificate.{certificate}
-use Rattle.immunity.proofs.Reported.{FirstDiffers, reports}
+use Rattle.immunity.proofs.Reported.{FirstDiffers, filter-reports}
 use Rattle.judge.specs.declared.JudgeAnswer.{JudgeAnswer}
 use Rattle.judge.specs.declared.Report.{Report}
 use Rattle.judge.specs.declared.Finding.the-variants.{Refused, Judged}
@@ -60,16 +57,13 @@ module _ (n : ℕ) (s f : List ℕ) (a : JudgeAccepts graded n s f (judged grade
   pub sums-accepted : (k : ℕ) → judged graded n s f .degree ≡ some k → (d side : ℕ) → d < k → side ≤ 1
       → CertifyAccepts graded n s f side d (certificate graded n s f side d)
   unfolding judged
-  sums-accepted k e d side l m = go (reports graded-is-graded (few-taps n s f filter) s f (points-inside n s (filter .set-formed)) (point .0) (point .1))
+  sums-accepted k e d side l m = go (filter-reports graded-is-graded n s f filter has)
     where
       filter : Filter n s f
       filter = judge-accepted graded n s f (judged graded n s f) a .0
 
       has : isEmpty (points s) ≡ false
       has = judge-accepted graded n s f (judged graded n s f) a .1
-
-      point : (a : ℕ) × List·Memᴰ a (points s)
-      point = some-member (points s) has
 
       go : (j : ℕ) × (reported graded n s f ≡ some j) × FirstDiffers graded n s f j → CertifyAccepts graded n s f side d (certificate graded n s f side d)
       go (j, is, r) =
