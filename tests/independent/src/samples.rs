@@ -87,6 +87,11 @@ pub fn mask_of(n: usize, mut chosen: impl FnMut(usize) -> bool) -> Vec<u8> {
     mask
 }
 
+// Every mask of n taps, of which there are few; the first marks no point.
+pub fn masks(n: usize) -> Vec<Vec<u8>> {
+    (0..1usize << (1 << n)).map(|bits| mask_of(n, |a| bits >> a & 1 == 1)).collect()
+}
+
 // The mask of the points of n taps whose weights are chosen: bit w for the weight w.
 pub fn of_weights(n: usize, chosen: usize) -> Vec<u8> {
     mask_of(n, |a| chosen >> weight(a) & 1 == 1)

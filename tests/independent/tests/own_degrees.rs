@@ -3,7 +3,7 @@
 use independent::filter::Filter;
 use independent::judgement::judge;
 use independent::random::Random;
-use independent::samples::{mask_of, pairs};
+use independent::samples::{masks, pairs};
 
 // Side 1's own degree and side 0's. There is none exactly where the side's part is all of the set, the reported degree
 // is the smaller of those that exist and not over the mark, and the side is 1 exactly where that is side 1's.
@@ -20,7 +20,7 @@ fn own_degrees(filter: Filter) -> [Option<usize>; 2] {
 #[test]
 fn every_set_and_table_of_up_to_three_taps() {
     for n in [1, 2, 3] {
-        let masks: Vec<Vec<u8>> = (0..1 << (1 << n)).map(|bits: usize| mask_of(n, |a| bits >> a & 1 == 1)).collect();
+        let masks = masks(n);
         for set in &masks[1..] {
             masks.iter().for_each(|table| _ = own_degrees(Filter { n, set, table }));
         }

@@ -4,7 +4,7 @@ use independent::filter::Filter;
 use independent::filter_file::{Triple, read, write};
 use independent::lent::{MARGIN, lend, margins_stay, middle};
 use independent::random::Random;
-use independent::samples::{PRINTED_FILE, mask_of, pairs};
+use independent::samples::{PRINTED_FILE, mask_of, masks, pairs};
 use independent::stored::stored;
 
 const TAPS: [usize; 9] = [1, 2, 3, 4, 5, 6, 7, 8, 9];
@@ -55,7 +55,7 @@ fn the_file_of_the_printed_sheet() {
 fn every_set_and_table_of_up_to_three_taps() {
     let mut random = Random(2);
     for n in 1..=3 {
-        let masks: Vec<Vec<u8>> = (0..1 << (1 << n)).map(|bits: usize| mask_of(n, |a| bits >> a & 1 == 1)).collect();
+        let masks = masks(n);
         for (set, table) in masks[1..].iter().flat_map(|set| masks.iter().map(move |table| (set, table))) {
             compare(&mut random, n, set, table);
         }
