@@ -1,4 +1,5 @@
 // A filter as it is lent, and the checks that every operation over a set and a table makes.
+use crate::rank::points_of;
 use crate::refusal::{POINTS, Refusal, bytes, lengths, require, taps};
 
 // What the operations over a set and a table are asked about, as it is lent.
@@ -21,5 +22,10 @@ impl Filter<'_> {
         bytes(self.set, self.n)?;
         bytes(self.table, self.n)?;
         require(self.set.contains(&1), Refusal::EmptySet)
+    }
+
+    // The points of S where the table has this value.
+    pub fn part(&self, side: u8) -> Vec<usize> {
+        points_of(self.set).into_iter().filter(|a| self.table[*a] == side).collect()
     }
 }

@@ -1,5 +1,6 @@
 // Judge, Certify and Hand over: docs/SPECIFICATION.md, 'Judge' to 'Hand over'.
 use crate::annihilator::lowest_degree;
+use crate::certificate::turn;
 use crate::filter::Filter;
 use crate::mark::mark;
 use crate::rank::{column_vectors, points_of, ranking, row, row_span};
@@ -16,13 +17,6 @@ pub struct Judgement {
     pub additions: u32,
     pub own_degrees: [Option<usize>; 2],
     pub mark: usize,
-}
-
-impl Filter<'_> {
-    // The points of S where the table has this value.
-    fn part(&self, side: u8) -> Vec<usize> {
-        points_of(self.set).into_iter().filter(|a| self.table[*a] == side).collect()
-    }
 }
 
 // The witness of a part that differs from the points at degree d: the exponents chosen.
@@ -79,7 +73,7 @@ pub fn certify(filter: Filter, side: u8, d: usize, workspace: &mut [u64], certif
     certificate.fill(0);
     for a in filter.part(1 - side) {
         let sum = rows.express(row(d, a)).expect("the ranks are equal");
-        sum.places().for_each(|q| certificate[8 * a + q / 64] |= 1 << (q % 64));
+        sum.places().for_each(|q| turn(certificate, a, q));
     }
     Ok(())
 }

@@ -1,6 +1,7 @@
 // The operations of docs/SPECIFICATION.md in plain Rust, written from words and by another road than the proved code.
 // Each answers what is specified, or the number of its refusal.
 pub mod annihilator; // annihilator.rs: the lowest degree of an annihilator
+pub mod certificate; // certificate.rs: the bits of a certificate
 pub mod faults; // faults.rs: calls that are wrong, for tests
 pub mod filter; // filter.rs: a filter as it is lent, and its checks
 pub mod filter_file; // filter_file.rs: Read, Write, and the file of a triple

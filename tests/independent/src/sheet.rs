@@ -1,4 +1,5 @@
 // The printed sheet: docs/SPECIFICATION.md, 'Sheet'.
+use crate::certificate::named;
 use crate::filter::Filter;
 use crate::filter_file::read;
 use crate::judgement::{Judgement, certify, judge};
@@ -18,9 +19,8 @@ fn sum_lines(filter: Filter, side: u8, d: usize) -> Result<String, u8> {
     let mut certificate = vec![0; CERTIFICATE];
     certify(filter, side, d, &mut vec![0; WORKSPACE], &mut certificate)?;
     let mut lines = String::new();
-    for (a, row) in certificate.chunks(8).enumerate() {
-        let summed = (0..POINTS).filter(|q| row[q / 64] >> (q % 64) & 1 == 1);
-        let sum = spaced(summed);
+    for a in 0..POINTS {
+        let sum = spaced(named(&certificate, a));
         if !sum.is_empty() {
             let _ = writeln!(lines, "side {side} point {a} sum{sum}");
         }

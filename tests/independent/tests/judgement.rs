@@ -1,5 +1,6 @@
 // Judge, Certify and Hand over of the independent implementation, against the numbered cases, evaluation and sums of
 // rows.
+use independent::certificate::named;
 use independent::filter::Filter;
 use independent::judgement::{Judgement, certify, hand_over, judge};
 use independent::normal_form::{convert, degree};
@@ -76,8 +77,8 @@ fn check_witness(n: usize, exponents: &[usize], k: usize, [set, part]: [&[usize]
 fn check_certificate(filter: Filter, side: u8, d: usize, [set, part]: [&[usize]; 2]) {
     let mut certificate = vec![9; 4096];
     assert_eq!(certify(filter, side, d, &mut vec![9; 8192], &mut certificate), Ok(()));
-    for (a, words) in certificate.chunks(8).enumerate() {
-        let named: Vec<usize> = (0..512).filter(|q| words[q / 64] >> (q % 64) & 1 == 1).collect();
+    for a in 0..512 {
+        let named: Vec<usize> = named(&certificate, a).collect();
         let sum = named.iter().fold(Bits::default(), |sum, q| sum.plus(row(d, *q)));
         let outside = set.contains(&a) && !part.contains(&a);
         assert!(named.iter().all(|q| part.contains(q)) && (outside || named.is_empty()));
