@@ -81,3 +81,33 @@ pub fn lend_faults<Own>(
     }
     tally.numbers(9)
 }
+
+// What Judge, Certify and Check are asked and lent besides a filter; of the buffers only the lengths.
+pub struct Asked {
+    pub side: u8,
+    pub d: usize,
+    pub workspace: usize,
+    pub witnesses: [usize; 2],
+    pub certificate: usize,
+}
+
+impl Asked {
+    // What all three accept beside a filter with a point in each part.
+    pub fn good(random: &mut Random) -> Asked {
+        Asked { side: random.pick(&[1, 0]), d: 0, workspace: 8192, witnesses: [512, 512], certificate: 4096 }
+    }
+}
+
+// What Certify and Check look at: the length of the certificate, the degree and the side. At n the ranks differ, which
+// Certify alone refuses.
+pub const CERTIFICATE_FAULTS: [Fault<Asked>; 9] = [
+    |call| call.own.certificate = 4095,
+    |call| call.own.certificate = 4097,
+    |call| call.own.certificate = 0,
+    |call| call.own.d = call.n.wrapping_add(1),
+    |call| call.own.d = 10,
+    |call| call.own.d = usize::MAX,
+    |call| call.own.side = 2,
+    |call| call.own.side = 255,
+    |call| call.own.d = call.n,
+];

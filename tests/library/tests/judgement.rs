@@ -1,5 +1,5 @@
 // Judge and Certify of the static library, compared with the independent implementation.
-use independent::faults::{Fault, lend_faults};
+use independent::faults::{Asked, CERTIFICATE_FAULTS, Fault, lend_faults};
 use independent::filter::Filter;
 use independent::judgement::{Judgement, certify, judge};
 use independent::lent::{MARGIN, lend, margins_stay, middle};
@@ -137,26 +137,12 @@ fn filters_of_every_n_whose_own_degrees_are_known() {
     }
 }
 
-// What Judge or Certify is asked and lent besides a filter; of the buffers only the lengths.
-struct Own {
-    side: u8,
-    d: usize,
-    workspace: usize,
-    witnesses: [usize; 2],
-    certificate: usize,
-}
-
-// What both accept beside a filter with a point in each part.
-fn good(random: &mut Random) -> Own {
-    Own { side: random.pick(&SIDES), d: 0, workspace: 8192, witnesses: [512, 512], certificate: 4096 }
-}
-
 // What both check besides a filter: the length of the workspace.
-const WORKSPACE_FAULTS: [Fault<Own>; 3] =
+const WORKSPACE_FAULTS: [Fault<Asked>; 3] =
     [|call| call.own.workspace = 8191, |call| call.own.workspace = 8193, |call| call.own.workspace = 0];
 
 // What Judge alone checks: the lengths of the witness buffers.
-const JUDGE_FAULTS: [Fault<Own>; 5] = [
+const JUDGE_FAULTS: [Fault<Asked>; 5] = [
     |call| call.own.witnesses[0] = 511,
     |call| call.own.witnesses[0] = 513,
     |call| call.own.witnesses[1] = 511,
@@ -164,23 +150,10 @@ const JUDGE_FAULTS: [Fault<Own>; 5] = [
     |call| call.own.witnesses = [0, 1024],
 ];
 
-// What Certify alone checks: the length of the certificate, the degree, the side and the ranks, which differ at n.
-const CERTIFY_FAULTS: [Fault<Own>; 9] = [
-    |call| call.own.certificate = 4095,
-    |call| call.own.certificate = 4097,
-    |call| call.own.certificate = 0,
-    |call| call.own.d = call.n.wrapping_add(1),
-    |call| call.own.d = 10,
-    |call| call.own.d = usize::MAX,
-    |call| call.own.side = 2,
-    |call| call.own.side = 255,
-    |call| call.own.d = call.n,
-];
-
 #[test]
 fn every_refusal_of_judge_and_every_pair_of_them_in_order() {
     let faults = [&WORKSPACE_FAULTS[..], &JUDGE_FAULTS].concat();
-    let numbers = lend_faults(12, good, &faults, |random, call| {
+    let numbers = lend_faults(12, Asked::good, &faults, |random, call| {
         let [one, zero] = call.own.witnesses;
         lend_judge(random, call.filter(), [call.own.workspace, one, zero]).map(|_| ())
     });
@@ -189,8 +162,8 @@ fn every_refusal_of_judge_and_every_pair_of_them_in_order() {
 
 #[test]
 fn every_refusal_of_certify_and_every_pair_of_them_in_order() {
-    let faults = [&WORKSPACE_FAULTS[..], &CERTIFY_FAULTS].concat();
-    let numbers = lend_faults(13, good, &faults, |random, call| {
+    let faults = [&WORKSPACE_FAULTS[..], &CERTIFICATE_FAULTS].concat();
+    let numbers = lend_faults(13, Asked::good, &faults, |random, call| {
         let (own, filter) = (&call.own, call.filter());
         lend_certify(random, filter, own.side, own.d, [own.workspace, own.certificate])
     });
