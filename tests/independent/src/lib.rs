@@ -2,6 +2,7 @@
 // Each answers what is specified, or the number of its refusal.
 pub mod annihilator; // annihilator.rs: the lowest degree of an annihilator
 pub mod certificate; // certificate.rs: the bits of a certificate
+pub mod check; // check.rs: Check
 pub mod faults; // faults.rs: calls that are wrong, for tests
 pub mod filter; // filter.rs: a filter as it is lent, and its checks
 pub mod filter_file; // filter_file.rs: Read, Write, and the file of a triple
@@ -12,6 +13,7 @@ pub mod lent; // lent.rs: buffers that are lent, for tests
 pub mod mark; // mark.rs: the mark of a set
 pub mod named; // named.rs: filter files with names
 pub mod normal_form; // normal_form.rs: Convert, Degree
+pub mod other_sums; // other_sums.rs: certificates with other sums than those of Certify, for tests
 pub mod random; // random.rs: a random generator for tests
 pub mod rank; // rank.rs: Rank
 pub mod refusal; // refusal.rs: the refusals, and the checks that several operations make
