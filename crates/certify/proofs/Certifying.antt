@@ -12,14 +12,14 @@ use Prim.Native.Nat.{ℕ, _≤_}
 use native.Mathlib.Omega.{arith}
 use lib.Dec.{eqb}
 use lib.ListN.{length}
-use borrow.Author.Tests.{eq-eqb, ne-eqb, not-true}
+use borrow.Author.Tests.{eq-eqb, ne-eqb}
 use Rattle.refusal.specs.declared.Refusal.{Refusal}
 use Rattle.refusal.specs.declared.Refusal.the-variants.{RanksDiffer}
 use Rattle.refusal.specs.declared.verdict.Verdict.the-variants as verdicts
 use Rattle.refusal.specs.Refusal.{numberOf}
 use Rattle.refusal.specs.Outcome.{Outcome, refused, accepted, Check, leftBy}
 use Rattle.refusal.specs.Verdict.{verdict}
-use Rattle.refusal.proofs.Verdicts.{checked-append, verdict-refuses, refused-among}
+use Rattle.refusal.proofs.Verdicts.{checked-append, verdict-refuses, refused-other}
 use Rattle.cube.specs.NumberLists.{below, Inside}
 use Rattle.cube.specs.Cube.{size}
 use Rattle.cube.specs.Mask.{member, points}
@@ -121,7 +121,7 @@ module _ (o s f : List ℕ) (n side d : ℕ) (ws c : List ℕ) where
   unfolding certifyOutcome
   refuses {x} e =
       let broken : outcome ≡ refused (numberOf x) = checked-append inputs (ranksEqual o s f n side d) _ ∙ verdict-refuses inputs _ e in
-      let other : eqb (numberOf x) (numberOf RanksDiffer) ≡ false = not-true _ (refused-among (λ y. not (eqb (numberOf y) (numberOf RanksDiffer))) inputs refl e) in
+      let other : eqb (numberOf x) (numberOf RanksDiffer) ≡ false = refused-other (numberOf RanksDiffer) inputs refl e in
       record {
         answers = sym broken;
         leaves = sym (ap (λ y. clearedUnless y ws) broken ∙ ap (λ z. zeroIf z ws) other);

@@ -1,6 +1,7 @@
 -- The points of masks.
 --   member-from     the numbers from one on
 --   length-from     how many they are
+--   from-distinct   none of them stands twice
 --   below-snoc      the numbers below a bound, one number more
 --   select-below    what a test keeps of the numbers below a bound, one number more
 --   select-yes      the next number passes a test
@@ -40,7 +41,7 @@ use Rattle.cube.specs.NumberLists.{upFrom, below, consIf, select, lists,
 use Rattle.cube.specs.Cube.{size}
 use Rattle.cube.specs.Mask.{bitsThenZeros, wellFormed, WellFormed, member, marked, points, HasPoint, byte, mask}
 use Rattle.cube.proofs.Count.{countBelow}
-use Rattle.cube.proofs.Listed.{and-both, lists-member, not-listed, member-select, select-snoc, select-fewer, some-member}
+use Rattle.cube.proofs.Listed.{and-both, lists-member, not-listed, member-select, select-snoc, select-fewer, Distinct, some-member}
 
 -- the numbers from one on
 pub member-from : (u k v : ℕ) → List·Memᴰ v (upFrom u k) ↔ ((u ≤ v) × (v < u + k))
@@ -66,6 +67,12 @@ pub length-from : (u k : ℕ) → length (upFrom u k) ≡ k
 unfolding upFrom
 length-from u zero = refl
 length-from u (suc k) = ap suc (length-from (suc u) k)
+
+-- none of them stands twice
+pub from-distinct : (u k : ℕ) → Distinct (upFrom u k)
+unfolding upFrom
+from-distinct u zero = tt
+from-distinct u (suc k) = (λ m. omega (arith, member-from (suc u) k u .0 m .0), from-distinct (suc u) k)
 
 -- one number more at their end
 from-snoc : (u k : ℕ) → upFrom u (suc k) ≡ upFrom u k ++ ((u + k) ∷ [])

@@ -7,7 +7,8 @@
 --   isEmpty xs       whether a list has no member
 --   largest t xs     the largest t of a member of a list, 0 where there is none
 --   Inside m xs      each number of the list is below m
-use mathlib.Core.Bool.{Bool, true, false, _||_}
+--   allBelow m t     each number below m passes a test, as a test
+use mathlib.Core.Bool.{Bool, true, false, _&&_, _||_}
 use mathlib.Core.List.{List, [], _∷_, List·Memᴰ}
 use Prim.Native.Nat.{ℕ, zero, suc, _<_, max}
 use lib.Dec.{eqb}
@@ -50,3 +51,8 @@ largest t (x ∷ xs) = max (t x) (largest t xs)
 -- each number of the list is below m
 abbrev pub Inside : ℕ → List ℕ → Type 0
 Inside m xs = (u : ℕ) → List·Memᴰ u xs → u < m
+
+-- each number below m passes a test
+unfoldable pub allBelow : ℕ → (ℕ → Bool) → Bool
+allBelow zero t = true
+allBelow (suc m) t = t m && allBelow m t

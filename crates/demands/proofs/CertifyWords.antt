@@ -4,17 +4,14 @@ use mathlib.Core.Path.{_≡_, _∙_}
 use mathlib.Core.Bool.{false}
 use mathlib.Core.List.{List, _++_}
 use Prim.Native.Nat.{ℕ}
-use native.Mathlib.Omega.{arith}
-use lib.Pow.{pow-mono}
 use borrow.Author.Tests.{eqb-true, not-true, not-false}
-use Rattle.cube.specs.NumberLists.{Inside}
 use Rattle.cube.specs.Mask.{points}
-use Rattle.cube.proofs.Masks.{value-at, points-inside}
+use Rattle.cube.proofs.Masks.{value-at}
 use Rattle.order.specs.BuiltIn.{graded}
 use Rattle.refusal.proofs.Verdicts.{all-append, passed-all, all-passed, accepted-passes}
 use Rattle.filter.specs.Filter.{Filter}
 use Rattle.filter.specs.Part.{part}
-use Rattle.filter.proofs.Filters.{few-taps}
+use Rattle.filter.proofs.Filters.{set-below}
 use Rattle.immunity.specs.Judgement.{EqualRanks, differs}
 use Rattle.immunity.specs.Certificate.{bitOf, IsCertificate, certificate}
 use Rattle.immunity.proofs.PartPoints.{part-rising}
@@ -34,11 +31,8 @@ written n s f side d p equal = record {
   only = λ b x l. certificate-only b (certificate graded n s f side d) x is l (certificate-numbers graded n s f side d);
 }
   where
-    inside : Inside 512 (points s)
-    inside a m = omega (arith, points-inside n s (p .set-formed) a m, pow-mono (few-taps n s f p))
-
     is : IsCertificate graded n d (points s) (part side s f) (certificate graded n s f side d)
-    is = certificate-is graded n d s f side inside equal
+    is = certificate-is graded n d s f side (set-below n s f p) equal
 
 -- each of them
 pub certify-words : (n : ℕ) (s f : List ℕ) (side d : ℕ) (c : List ℕ) → CertifyAccepts graded n s f side d c → CertifyWords n s f side d c

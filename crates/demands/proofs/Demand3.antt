@@ -7,16 +7,13 @@ use mathlib.Core.Logic.{_↔_, inl, inr}
 use mathlib.Core.Option.{some}
 use Prim.Native.Nat.{ℕ, _≤_}
 use native.Mathlib.Omega.{arith}
-use lib.Pow.{pow-mono}
-use Rattle.cube.specs.NumberLists.{Inside, isEmpty}
-use Rattle.cube.specs.Cube.{size}
+use Rattle.cube.specs.NumberLists.{isEmpty}
 use Rattle.cube.specs.Mask.{points}
-use Rattle.cube.proofs.Masks.{points-inside}
 use Rattle.order.specs.BuiltIn.{graded}
 use Rattle.order.proofs.BuiltIn.{graded-is-graded}
 use Rattle.filter.specs.Filter.{Filter}
 use Rattle.filter.specs.Part.{part}
-use Rattle.filter.proofs.Filters.{few-taps}
+use Rattle.filter.proofs.Filters.{few-taps, set-below}
 use Rattle.immunity.specs.Judgement.{EqualRanks, reported, judged, GivenEqual}
 use Rattle.immunity.specs.Certificate.{Certifies, certificate}
 use Rattle.immunity.proofs.PartPoints.{part-rising}
@@ -37,9 +34,6 @@ judgement3 n s f p has = go (filter-reports graded-is-graded n s f p has)
     small : n ≤ 9
     small = few-taps n s f p
 
-    inside : Inside (size n) (points s)
-    inside = points-inside n s (p .set-formed)
-
     -- the ranks given are equal exactly where the ranks are
     given : (side d : ℕ) → side ≤ 1 → d ≤ n → GivenEqual (judged graded n s f) side d ↔ EqualRanks graded n s f side d
     given side d l m = equal-given graded n s f d m small side l
@@ -50,7 +44,7 @@ judgement3 n s f p has = go (filter-reports graded-is-graded n s f p has)
     certified side d l m e = (
       certificate graded n s f side d,
       certify-accepts n s f side d graded p has l m e,
-      is-certifies (part-rising side s f) (certificate-is graded n d s f side (λ q i. omega (arith, inside q i, pow-mono small)) e),
+      is-certifies (part-rising side s f) (certificate-is graded n d s f side (set-below n s f p) e),
     )
 
     go : (k : ℕ) × (reported graded n s f ≡ some k) × FirstDiffers graded n s f k → Judgement3 n s f (judged graded n s f)

@@ -3,17 +3,21 @@
 --   some-point   and that the set has a point
 --   passes       a filter whose set has a point passes what follows the taps
 --   few-taps     a filter has at most nine taps
+--   set-below    the points of its set are below 512
 use mathlib.Core.Path.{_≡_, ap}
 use mathlib.Core.Bool.{true, false, not}
 use mathlib.Core.List.{List}
 use Prim.Native.Nat.{ℕ, _≤_}
+use native.Mathlib.Omega.{arith}
 use lib.Dec.{eqb}
 use lib.ListN.{length}
+use lib.Pow.{pow-mono}
 use borrow.Author.Tests.{eqb-true, not-true}
 use Rattle.refusal.proofs.Verdicts.{All}
-use Rattle.cube.specs.NumberLists.{isEmpty}
+use Rattle.cube.specs.NumberLists.{isEmpty, Inside}
 use Rattle.cube.specs.Cube.{taps}
 use Rattle.cube.specs.Mask.{points}
+use Rattle.cube.proofs.Masks.{points-inside}
 use Rattle.cube.proofs.Taps.{taps-range}
 use Rattle.filter.specs.Filter.{Filter}
 use Rattle.filter.specs.Checks.{filterMasks}
@@ -40,3 +44,7 @@ module _ (n : ℕ) (s f : List ℕ) where
   -- a filter has at most nine taps
   pub few-taps : Filter n s f → n ≤ 9
   few-taps h = taps-range n .0 (h .tapped) .1
+
+  -- the points of its set are below 512
+  pub set-below : Filter n s f → Inside 512 (points s)
+  set-below h a m = omega (arith, points-inside n s (h .set-formed) a m, pow-mono (few-taps h))

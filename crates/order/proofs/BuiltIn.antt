@@ -3,7 +3,7 @@
 --   graded-rises       of two places of the built-in order, the later has the higher key
 --   graded-is-graded   the built-in order is graded
 use mathlib.Core.Path.{_≡_, refl, sym, ap, subst}
-use mathlib.Core.Bool.{Bool, true, _&&_}
+use mathlib.Core.Bool.{Bool, true}
 use mathlib.Core.Logic.{_⊎_, inl, inr}
 use Prim.Native.Nat.{ℕ, zero, suc, _+_, _*_, _≤_, _<_}
 use native.Mathlib.Decide.{decLt}
@@ -13,8 +13,9 @@ use lib.Count.{ones}
 use lib.Dec.{ltb}
 use lib.ListN.{length, getD}
 use borrow.Author.Tests.{ltb-true}
+use Rattle.cube.specs.NumberLists.{allBelow}
 use Rattle.cube.specs.Cube.{weight}
-use Rattle.cube.proofs.Listed.{and-both}
+use Rattle.cube.proofs.AllBelow.{all-says}
 use Rattle.order.specs.Order.{Graded}
 use Rattle.order.specs.BuiltIn.{graded}
 
@@ -22,20 +23,6 @@ use Rattle.order.specs.BuiltIn.{graded}
 unfoldable pub order-key : ℕ → ℕ
 unfolding ones
 order-key u = weight u * 512 + u
-
--- a test holds at each number below a bound
-allBelow : (ℕ → Bool) → ℕ → Bool
-allBelow t zero = true
-allBelow t (suc m) = t m && allBelow t m
-
--- so it holds at one of them
-at-below : (t : ℕ → Bool) (m : ℕ) → allBelow t m ≡ true → (u : ℕ) → u < m → t u ≡ true
-unfolding allBelow
-at-below t zero h u l = absurd (omega arith)
-at-below t (suc m) h u l = elim (decLt u m) [
-  | yes i ↦ at-below t m (and-both (t m) (allBelow t m) h .1) u i
-  | no i ↦ let q : u ≡ m = omega arith in rw q (and-both (t m) (allBelow t m) h .0)
-]
 
 -- the entry at a place
 entry : ℕ → ℕ
@@ -53,12 +40,12 @@ unfolding entry order-key
 rises i = ltb (order-key (entry i)) (order-key (entry (suc i)))
 
 -- each entry is
-small-all : allBelow small 512 ≡ true
+small-all : allBelow 512 small ≡ true
 unfolding small allBelow
 small-all = refl
 
 -- at each place
-rises-all : allBelow rises 511 ≡ true
+rises-all : allBelow 511 rises ≡ true
 unfolding rises allBelow
 rises-all = refl
 
@@ -74,7 +61,7 @@ graded-rises i zero h b = absurd (omega arith)
 graded-rises i (suc j) h b = go (λ q. graded-rises i j q (omega arith)) (eq-or-lt-of-le (le-of-suc-le-suc h))
   where
     next : order-key (getD graded j 0) < order-key (getD graded (suc j) 0)
-    next = ltb-true _ _ (at-below rises 511 rises-all j (omega arith))
+    next = ltb-true _ _ (all-says 511 rises .0 rises-all j (omega arith))
 
     go : (i < j → order-key (getD graded i 0) < order-key (getD graded j 0)) → (i ≡ j) ⊎ (i < j) → order-key (getD graded i 0) < order-key (getD graded (suc j) 0)
     go rest (inl e) = subst (λ (m : ℕ). order-key (getD graded m 0) < order-key (getD graded (suc j) 0)) (sym e) next
@@ -83,7 +70,7 @@ graded-rises i (suc j) h b = go (λ q. graded-rises i j q (omega arith)) (eq-or-
 -- what stands at a place is below 512
 graded-inside : (i : ℕ) → i < 512 → getD graded i 0 < 512
 unfolding small entry
-graded-inside i h = ltb-true (getD graded i 0) 512 (at-below small 512 small-all i h)
+graded-inside i h = ltb-true (getD graded i 0) 512 (all-says 512 small .0 small-all i h)
 
 -- so of two numbers below 512 that of the lower key weighs no more
 by-weight : (u v : ℕ) → u < 512 → v < 512 → order-key u < order-key v → weight u ≤ weight v

@@ -1,5 +1,4 @@
 -- The number of columns of a degree, by the places of a graded order.
---   isColumn n d u         the exponent u is a column of n taps at degree d
 --   laterColumns o n d i   the columns that the order has from place i on
 --   columnsLeft o n d i    how many they are
 --   columns-later          the one at place i is the first of them
@@ -17,11 +16,7 @@ use lib.Seq.{drop-cons, drop-length}
 use Rattle.cube.specs.NumberLists.{consIf, select}
 use Rattle.cube.specs.Cube.{size, weight}
 use Rattle.cube.specs.Mask.{byte}
-use Rattle.order.specs.Order.{Graded}
-
--- the exponent u is a column of n taps at degree d
-abbrev pub isColumn : ℕ → ℕ → ℕ → Bool
-isColumn n d u = ltb u (size n) && leb (weight u) d
+use Rattle.order.specs.Order.{Graded, isColumn}
 
 -- the columns that the order has from place i on
 abbrev pub laterColumns : List ℕ → ℕ → ℕ → ℕ → List ℕ

@@ -11,9 +11,9 @@ use lib.ListN.{length, getD, set}
 use lib.Seq.{paste}
 use Rattle.gf2.specs.Vector.{Row}
 use Rattle.gf2.specs.Steps.{rowOf}
-use Rattle.packed.specs.Packed.{unpacked}
+use Rattle.packed.specs.Packed.{unpacked, words}
 use Rattle.packed.proofs.Bitwise.{pairs, length-pairs, getD-pairs, Bitwise, unpack-pairs}
-use Rattle.packed.proofs.Rows.{words, getD-words, length-words, row-at, paste-old, paste-turn, paste-done}
+use Rattle.packed.proofs.Rows.{getD-words, length-words, row-at, paste-old, paste-turn, paste-done}
 
 -- the eight numbers of rows p and q of d, joined one by one
 abbrev pub joined : (ℕ → ℕ → ℕ) → List ℕ → ℕ → ℕ → List ℕ

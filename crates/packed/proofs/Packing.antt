@@ -19,9 +19,9 @@ use lib.Seq.{length-take-le, take-nil, drop-nil, take-at, drop-append-add, drop-
 use Rattle.gf2.specs.Vector.{Row, digit}
 use Rattle.gf2.specs.Cut.{padded}
 use Rattle.gf2.specs.Steps.{rowOf}
-use Rattle.packed.specs.Packed.{odd, bitsOf, unpack, unpacked, number, pack}
+use Rattle.packed.specs.Packed.{odd, bitsOf, unpack, unpacked, number, pack, words}
 use Rattle.packed.proofs.Bitwise.{length-bits}
-use Rattle.packed.proofs.Rows.{words, getD-words, length-words, row-at}
+use Rattle.packed.proofs.Rows.{getD-words, length-words, row-at}
 
 -- a row of n columns makes a number of n bits
 pub number-bound : (v : Row) → number v < 2 ^ length v

@@ -1,5 +1,4 @@
 -- The rows of a workspace: the numbers of a row, and what stores to a row do to the rows.
---   words ws j     the eight numbers of row j
 --   getD-words     number k of row j
 --   length-words   there are eight
 --   length-rows    the number of rows
@@ -21,12 +20,8 @@ use lib.ListN.{length, getD, set, take, drop, take-append-drop, length-drop, Lis
 use lib.Seq.{drop-drop, take-set-lt, take-set-le, drop-set-lt, drop-set-add, paste, paste-suc, take-at, drop-at, take-all, length-take-le, take-append-add, drop-append-add, length-paste-head, drop-paste, getD-drop, getD-take}
 use Rattle.gf2.specs.Vector.{Row}
 use Rattle.gf2.specs.Steps.{rowOf}
-use Rattle.packed.specs.Packed.{unpack, unpackRows, unpacked}
+use Rattle.packed.specs.Packed.{unpack, unpackRows, unpacked, words}
 use Rattle.packed.proofs.Words.{length-unpack}
-
--- the eight numbers of row j
-abbrev pub words : List ℕ → ℕ → List ℕ
-words ws j = take 8 (drop (j * 8) ws)
 
 -- number k of row j
 pub getD-words : (ws : List ℕ) (j k : ℕ) → k < 8 → getD (words ws j) k 0 ≡ getD ws (j * 8 + k) 0

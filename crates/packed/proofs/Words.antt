@@ -1,7 +1,9 @@
 -- The row of a list of numbers: reading a column, the first one, putting a one in, zeros.
 --   length-unpack   a number holds 64 columns
 --   past-first      a place past the first number
+--   shifted         a one shifted by less than 64
 --   entry-unpack    a column is a bit of a number
+--   entry-word      the same, by the column's number
 --   pivot-word      a number with a one holds the first one of the row that it begins
 --   pivot-zeros     a number that is zero is passed
 --   unpack-or       a one put into a number is put into the row
@@ -11,7 +13,7 @@ use mathlib.Core.Path.{_≡_, refl, sym, ap, ap₂, _∙_}
 use mathlib.Core.Bool.{Bool, true, false}
 use mathlib.Core.List.{List, [], _∷_, _++_}
 use Prim.Native.Nat.{ℕ, zero, suc, _+_, _*_, _/_, _%_, _^_, _<_}
-use native.Mathlib.Nat.{mod-lt, zero-lt-suc, div-one, zero-div, zero-add, suc-add, pow-suc, div-lt-iff-lt-mul, mul-mod-left, mul-div-cancel}
+use native.Mathlib.Nat.{mod-lt, zero-lt-suc, div-one, zero-div, zero-add, suc-add, one-mul, mod-eq-of-lt, pow-suc, div-lt-iff-lt-mul, mul-mod-left, mul-div-cancel}
 use native.Mathlib.Numerals.{one-add}
 use native.Mathlib.Omega.{arith}
 use lib.Bits.{bitOr, or-mod, or-shr, or-zero-r}
@@ -19,11 +21,15 @@ use lib.Count.{trailingZeros, under}
 use lib.Dec.{eqb}
 use lib.ListN.{length, getD, set, replicate, length-append, List·getD-append, replicate-append-replicate}
 use lib.Seq.{getD-append-add, set-append-left}
-use lib.Pow.{shr-shr}
+use lib.Pow.{pow-lt, shr-shr}
 use Rattle.gf2.specs.Vector.{Row, entry}
 use Rattle.gf2.specs.Elimination.{pivot}
 use Rattle.packed.specs.Packed.{odd, bitsOf, unpack}
 use Rattle.packed.proofs.Bitwise.{length-bits}
+
+-- a one shifted by less than 64
+pub shifted : (c : ℕ) → c < 64 → 1 * 2 ^ c % 2 ^ 64 ≡ 2 ^ c
+shifted c h = ap (λ x. x % 2 ^ 64) (one-mul (2 ^ c)) ∙ mod-eq-of-lt (pow-lt h)
 
 -- a number holds 64 columns
 pub length-unpack : (u : List ℕ) → length (unpack u) ≡ length u * 64
@@ -52,6 +58,12 @@ entry-unpack (w ∷ u) zero r h =
     ∙ entry-bits 64 w r h
 entry-unpack (w ∷ u) (suc q) r h =
     ap (entry (bitsOf 64 w ++ unpack u)) (past-first w q r) ∙ getD-append-add (bitsOf 64 w) (unpack u) (q * 64 + r) false ∙ entry-unpack u q r h
+
+-- the same, by the column's number
+pub entry-word : (u : List ℕ) (c : ℕ) → entry (unpack u) c ≡ odd (getD u (c / 64) 0 / 2 ^ (c % 64))
+entry-word u c =
+    let e : c ≡ c / 64 * 64 + c % 64 = omega arith in
+    ap (entry (unpack u)) e ∙ entry-unpack u (c / 64) (c % 64) (omega arith)
 
 -- a number with a one holds the first one of the row that it begins
 pub pivot-word : (n a : ℕ) (rest : Row) → 0 < a → a < 2 ^ n → pivot (bitsOf n a ++ rest) ≡ trailingZeros n a

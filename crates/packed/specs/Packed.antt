@@ -2,6 +2,7 @@
 --   odd a             the lowest bit of a number
 --   bitsOf n a        the n lowest bits of a number, the lowest first
 --   unpack ws         the row in a list of numbers
+--   words ws j        the eight numbers of row j
 --   unpackRows n ws   the first n rows of a list of numbers
 --   unpacked ws       the 1024 rows of the workspace
 --   zeros n           n numbers that are zero
@@ -27,6 +28,10 @@ bitsOf (suc n) a = odd a ∷ bitsOf n (a / 2)
 unfoldable pub unpack : List ℕ → Row
 unpack [] = []
 unpack (w ∷ ws) = bitsOf 64 w ++ unpack ws
+
+-- the eight numbers of row j
+abbrev pub words : List ℕ → ℕ → List ℕ
+words ws j = take 8 (drop (j * 8) ws)
 
 -- the n rows of a list of numbers, eight numbers to a row
 unfoldable pub unpackRows : ℕ → List ℕ → List Row

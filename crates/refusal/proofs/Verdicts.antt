@@ -13,9 +13,10 @@
 --   accepted-passes   an outcome that accepts after checks has passed them
 --   refused-either    one that refuses after checks: a check is broken, or they pass and what follows refuses
 --   refused-among     the refusal of a broken check is one of the list's
+--   refused-other     so it is not by a number that none of them has
 use mathlib.Core.Path.{_≡_, refl, sym, _∙_}
 use mathlib.Core.Logic.{_↔_, _⊎_, inl, inr}
-use mathlib.Core.Bool.{Bool, true, false, _&&_, and-eq-true-iff, false≢true}
+use mathlib.Core.Bool.{Bool, true, false, _&&_, and-eq-true-iff, false≢true, not}
 use mathlib.Core.List.{List, [], _∷_, _++_}
 use Prim.Native.Nat.{ℕ}
 use native.Mathlib.Omega.{arith}
@@ -25,6 +26,8 @@ use Rattle.refusal.specs.declared.verdict.Verdict.the-variants.{Passed, 
 use Rattle.refusal.specs.Refusal.{numberOf}
 use Rattle.refusal.specs.Outcome.{Outcome, refused, accepted, Check, _otherwise_, checked}
 use Rattle.refusal.specs.Verdict.{alsoOf, from, verdict, outcome}
+use lib.Dec.{eqb}
+use borrow.Author.Tests.{not-true}
 use Rattle.refusal.proofs.Outcomes.{not-both}
 
 -- each check holds
@@ -115,3 +118,7 @@ refused-among p (true otherwise r ∷ cs) h e = refused-among p cs (and-eq-true-
 refused-among p (false otherwise r ∷ cs) {x} h e =
     let s = refused-stays r cs in
     let same : r ≡ x = cc in rw (← same) (and-eq-true-iff (p r) (every p cs) .0 h .0)
+
+-- so it is not by a number that none of them has
+pub refused-other : (k : ℕ) (cs : List Check) {x : Refusal} → every (λ y. not (eqb (numberOf y) k)) cs ≡ true → verdict cs ≡ Refused x → eqb (numberOf x) k ≡ false
+refused-other k cs others e = not-true _ (refused-among (λ y. not (eqb (numberOf y) k)) cs others e)

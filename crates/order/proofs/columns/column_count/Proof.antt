@@ -9,8 +9,8 @@ use lib.Dec.{leb, ltb}
 use lib.ListN.{length, getD}
 use Rattle.cube.specs.Cube.{weight}
 use Rattle.cube.specs.Mask.{byte}
-use Rattle.order.specs.Order.{columns}
-use Rattle.order.proofs.ColumnCount.{isColumn, columnsLeft, columns-next, columns-end}
+use Rattle.order.specs.Order.{columns, isColumn}
+use Rattle.order.proofs.ColumnCount.{columnsLeft, columns-next, columns-end}
 use Rattle.order.proofs.columns.column_count.Statement.{statement}
 use Rattle.order.proofs.columns.column_count.Tie as tie
 

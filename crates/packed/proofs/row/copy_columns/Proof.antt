@@ -8,9 +8,9 @@ use lib.ListN.{length, getD, set, length-set}
 use lib.Seq.{paste, paste-zero}
 use Rattle.gf2.specs.Cut.{cut}
 use Rattle.gf2.specs.Steps.{rowOf}
-use Rattle.packed.specs.Packed.{unpacked}
+use Rattle.packed.specs.Packed.{unpacked, words}
 use Rattle.packed.proofs.Cuts.{cuts, length-cuts, getD-cuts, unpack-cuts}
-use Rattle.packed.proofs.Rows.{words, length-words, getD-words, row-at, paste-old, paste-turn, paste-done}
+use Rattle.packed.proofs.Rows.{length-words, getD-words, row-at, paste-old, paste-turn, paste-done}
 use Rattle.packed.proofs.row.copy_columns.Statement.{statement}
 use Rattle.packed.proofs.row.copy_columns.Tie as tie
 

@@ -1,15 +1,12 @@
 use borrow.Author.Needs.{needs}
-use mathlib.Core.Path.{_≡_, sym, ap, _∙_}
-use Prim.Native.Nat.{ℕ, _*_, _%_, _^_, _<_, _≤_}
-use native.Mathlib.Nat.{one-mul, mod-eq-of-lt}
+use mathlib.Core.Path.{sym, ap}
+use Prim.Native.Nat.{_%_, _≤_}
+use native.Mathlib.Nat.{mod-eq-of-lt}
 use native.Mathlib.Omega.{arith}
-use lib.Pow.{pow-pos, pow-lt, pow-mono}
+use lib.Pow.{pow-pos, pow-mono}
+use Rattle.packed.proofs.Words.{shifted}
 use Rattle.packed.proofs.row.cut_word.Statement.{statement}
 use Rattle.packed.proofs.row.cut_word.Tie as tie
-
--- a one shifted by less than 64
-shifted : (c : ℕ) → c < 64 → 1 * 2 ^ c % 2 ^ 64 ≡ 2 ^ c
-shifted c h = ap (λ x. x % 2 ^ 64) (one-mul (2 ^ c)) ∙ mod-eq-of-lt (pow-lt h)
 
 rem-result : tie.Need-rem-result
 rem-result c = omega (arith, shifted (c .before .args .columns) (omega arith), pow-pos (c .before .args .columns))

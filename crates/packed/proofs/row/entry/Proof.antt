@@ -6,9 +6,9 @@ use native.Mathlib.Omega.{arith}
 use lib.ListN.{getD}
 use Rattle.gf2.specs.Vector.{Row, entry}
 use Rattle.gf2.specs.Steps.{rowOf}
-use Rattle.packed.specs.Packed.{odd, unpack, unpacked}
+use Rattle.packed.specs.Packed.{odd, unpack, unpacked, words}
 use Rattle.packed.proofs.Words.{entry-unpack}
-use Rattle.packed.proofs.Rows.{words, row-at, getD-words}
+use Rattle.packed.proofs.Rows.{row-at, getD-words}
 use Rattle.packed.proofs.row.entry.Statement.{statement}
 use Rattle.packed.proofs.row.entry.Tie as tie
 

@@ -3,16 +3,14 @@ use mathlib.Core.Path.{_≡_, sym, ap, ap₂, _∙_}
 use mathlib.Core.Bool.{true}
 use mathlib.Core.List.{List}
 use Prim.Native.Nat.{ℕ, _+_, _*_, _/_, _%_, _^_, _<_}
-use native.Mathlib.Nat.{one-mul, mod-eq-of-lt}
 use native.Mathlib.Omega.{arith}
 use lib.Bits.{bitOr}
 use lib.ListN.{length, getD, set}
-use lib.Pow.{pow-lt}
 use Rattle.gf2.specs.Vector.{Row}
 use Rattle.gf2.specs.Steps.{rowOf}
-use Rattle.packed.specs.Packed.{unpack, unpacked}
-use Rattle.packed.proofs.Words.{unpack-or}
-use Rattle.packed.proofs.Rows.{words, length-words, getD-words, row-at, rows-set}
+use Rattle.packed.specs.Packed.{unpack, unpacked, words}
+use Rattle.packed.proofs.Words.{unpack-or, shifted}
+use Rattle.packed.proofs.Rows.{length-words, getD-words, row-at, rows-set}
 use Rattle.packed.proofs.row.set_entry.Statement.{statement}
 use Rattle.packed.proofs.row.set_entry.Tie as tie
 
@@ -25,7 +23,7 @@ one-in ws row c l h k =
     let q : c / 64 < 8 = omega arith in
     let u : List ℕ = words ws row in
     let n : c / 64 < length u = rw (length-words ws row (omega arith)) q in
-    let one : 1 * 2 ^ (c % 64) % 2 ^ 64 ≡ 2 ^ (c % 64) = ap (λ (x : ℕ). x % 2 ^ 64) (one-mul (2 ^ (c % 64))) ∙ mod-eq-of-lt (pow-lt m) in
+    let one : 1 * 2 ^ (c % 64) % 2 ^ 64 ≡ 2 ^ (c % 64) = shifted (c % 64) m in
     ap (λ (x : ℕ). unpacked (set ws (row * 8 + c / 64) (bitOr (getD ws (row * 8 + c / 64) 0) x))) one
     ∙ rows-set 1024 ws row (c / 64) (bitOr (getD ws (row * 8 + c / 64) 0) (2 ^ (c % 64))) h q
     ∙ ap (λ (x : ℕ). set (unpacked ws) row (unpack (set u (c / 64) (bitOr x (2 ^ (c % 64)))))) (sym (getD-words ws row (c / 64) q))

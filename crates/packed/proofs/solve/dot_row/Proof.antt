@@ -11,9 +11,9 @@ use lib.ListN.{length, getD, drop, drop-of-length-le}
 use lib.Seq.{drop-cons}
 use Rattle.gf2.specs.Vector.{dot}
 use Rattle.gf2.proofs.Bits.{xor-false, false-xor, xor-assoc}
-use Rattle.packed.specs.Packed.{odd, unpack}
+use Rattle.packed.specs.Packed.{odd, unpack, words}
 use Rattle.packed.proofs.Parity.{odd-add, dot-words}
-use Rattle.packed.proofs.Rows.{words, getD-words, length-words, row-at}
+use Rattle.packed.proofs.Rows.{getD-words, length-words, row-at}
 use Rattle.packed.proofs.solve.dot_row.Statement.{statement}
 use Rattle.packed.proofs.solve.dot_row.Tie as tie
 
