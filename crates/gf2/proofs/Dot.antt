@@ -13,6 +13,7 @@
 --   dot-unit           the parity with a unit row is an entry
 --   entry-unit         a unit row has its one
 --   entry-unit-other   a unit row has no other one
+--   entry-unit-is      each entry of a unit row
 --   Linear f           a function of rows that takes sums to sums
 --   linear-zero        linear functions are zero at zero
 --   linear-same        for linear functions only the entries matter
@@ -24,6 +25,8 @@ use mathlib.Core.Logic.{_↔_, _≢_}
 use mathlib.Core.Bool.{Bool, false, true, xor, _&&_, and-comm, and-false}
 use mathlib.Core.List.{[], _∷_}
 use Prim.Native.Nat.{ℕ, zero, suc}
+use lib.Dec.{eqb}
+use borrow.Author.Tests.{eqb-true, eqb-false}
 use Rattle.gf2.specs.Vector.{Row, entry, add, dot, unit, Zero, Same}
 use Rattle.gf2.specs.Elimination.{addIf}
 use Rattle.gf2.proofs.Bits.{bits, xor-false, false-xor, xor-self, xor-equal, xor-assoc}
@@ -117,6 +120,14 @@ entry-unit-other zero zero ne = absurd (ne refl)
 entry-unit-other zero (suc d) ne = refl
 entry-unit-other (suc c) zero ne = refl
 entry-unit-other (suc c) (suc d) ne = entry-unit-other c d (λ e. ne (ap suc e))
+
+-- each entry of a unit row
+pub entry-unit-is : (c d : ℕ) → entry (unit c) d ≡ eqb c d
+entry-unit-is c d = go (eqb c d) refl
+  where
+    go : (b : Bool) → eqb c d ≡ b → entry (unit c) d ≡ b
+    go true e = rw (← eqb-true c d e) (entry-unit c)
+    go false e = entry-unit-other c d (eqb-false c d e)
 
 -- a function of rows that takes sums to sums
 pub record Linear (f : Row → Bool) : Type 0 where

@@ -23,3 +23,4 @@ pub mod Padded
 pub mod Steps
 pub mod BothRows
 pub mod Prefix
+pub mod Common

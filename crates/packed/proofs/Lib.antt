@@ -8,3 +8,4 @@ pub mod Packing
 pub mod Rows
 pub mod Joined
 pub mod Tally
+pub mod ZeroRows

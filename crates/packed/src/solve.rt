@@ -1,23 +1,14 @@
-// Back substitution on packed rows: a row with given parities against the kept rows. The functions that are public are
-// kernels for the crates above and change no lent buffer.
+// Back substitution on packed rows: a row with given parities against the kept rows. The function that is public is a
+// kernel for the crates above and changes no lent buffer.
 ghost use mathlib.Core.Path.{_≡_};
-ghost use mathlib.Core.Bool.{true};
 ghost use Prim.Native.Nat.{_+_, _<_};
 ghost use lib.ListN.{length, take};
-ghost use Rattle.gf2.specs.Vector.{entry, dot, Same};
-ghost use Rattle.gf2.specs.Solve.{flip, solveLast};
+ghost use Rattle.gf2.specs.Vector.{dot, Same};
+ghost use Rattle.gf2.specs.Solve.{solveLast};
 ghost use Rattle.gf2.specs.Steps.{rowOf, Pivots};
 ghost use Rattle.packed.specs.Packed.{unpack, unpacked};
 use crate::ROW_WORDS;
-use crate::WORD_BITS;
-
-// The entry of `x` at column `c`.
-pub fn entry_at(x: &[u64; 8], c: usize) -> bool
-    requires { ⌜ (length (now x) ≡ 8) × (c < 512) ⌝ }
-    ensures { λ r. ⌜ r ≡ entry (unpack (now (x .entry))) c ⌝ }
-{
-    (x[c / WORD_BITS] >> (c % WORD_BITS)) % 2 == 1
-}
+use crate::single::flip_column;
 
 // Whether `x` and row `row` have an odd number of common ones.
 fn dot_row(ws: &[u64], row: usize, x: &[u64; 8]) -> bool
@@ -31,15 +22,6 @@ fn dot_row(ws: &[u64], row: usize, x: &[u64; 8]) -> bool
         k += 1;
     }
     count % 2 == 1
-}
-
-// Column `c` of `x` is changed.
-fn flip_column(x: &mut [u64; 8], c: usize)
-    requires { ⌜ (length (now x) ≡ 8) × (c < 512) ⌝ }
-    ensures { λ _. ⌜ (length (now (x .exit)) ≡ 8) × (unpack (now (x .exit)) ≡ flip true (unpack (now (x .entry))) c) ⌝ }
-{
-    let i = c / WORD_BITS;
-    x[i] = x[i] ^ (1u64 << (c % WORD_BITS));
 }
 
 // Back substitution on the first `kept` rows and row `kept`, with ones at their pivots only: of rows in echelon form the

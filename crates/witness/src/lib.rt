@@ -24,7 +24,7 @@ use order::columns::column_count;
 use order::columns::is_column;
 use order::exponent_at;
 use packed::COLUMNS;
-use packed::solve::entry_at;
+use packed::single::entry_at;
 use packed::solve::solve_last;
 use point_rows::row_of;
 

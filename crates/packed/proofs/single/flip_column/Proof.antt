@@ -3,16 +3,15 @@ use mathlib.Core.Path.{_≡_, ap, _∙_}
 use mathlib.Core.Bool.{true}
 use mathlib.Core.List.{List}
 use Prim.Native.Nat.{ℕ, _+_, _*_, _/_, _%_, _^_, _<_}
-use native.Mathlib.Nat.{one-mul, mod-eq-of-lt}
 use native.Mathlib.Omega.{arith}
 use lib.Bits.{bitXor}
 use lib.ListN.{length, getD, set, length-set}
-use lib.Pow.{pow-lt}
 use Rattle.gf2.specs.Solve.{flip}
 use Rattle.packed.specs.Packed.{unpack}
+use Rattle.packed.proofs.Words.{shifted}
 use Rattle.packed.proofs.Parity.{unpack-flip}
-use Rattle.packed.proofs.solve.flip_column.Statement.{statement}
-use Rattle.packed.proofs.solve.flip_column.Tie as tie
+use Rattle.packed.proofs.single.flip_column.Statement.{statement}
+use Rattle.packed.proofs.single.flip_column.Tie as tie
 
 -- the bit that is changed is the column's
 changed : (x : List ℕ) (c : ℕ) → length x ≡ 8 → c < 512
@@ -20,7 +19,7 @@ changed : (x : List ℕ) (c : ℕ) → length x ≡ 8 → c < 512
 changed x c l h =
     let e : c / 64 * 64 + c % 64 ≡ c = omega arith in
     let m : c % 64 < 64 = omega arith in
-    let one : 1 * 2 ^ (c % 64) % 2 ^ 64 ≡ 2 ^ (c % 64) = ap (λ (n : ℕ). n % 2 ^ 64) (one-mul (2 ^ (c % 64))) ∙ mod-eq-of-lt (pow-lt m) in
+    let one : 1 * 2 ^ (c % 64) % 2 ^ 64 ≡ 2 ^ (c % 64) = shifted (c % 64) m in
     ap (λ (n : ℕ). unpack (set x (c / 64) (bitXor (getD x (c / 64) 0) n))) one
     ∙ unpack-flip x (c / 64) (c % 64) (omega arith) m ∙ ap (flip true (unpack x)) e
 
