@@ -1,0 +1,4 @@
+-- Laws of sums over supersets.
+pub mod Turns
+pub mod Blocks
+pub mod Steps

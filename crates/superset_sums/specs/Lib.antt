@@ -1,0 +1,2 @@
+-- Sums over supersets.
+pub mod SupersetSums
