@@ -1,4 +1,5 @@
 -- The numbers of a certificate.
+--   number-same           numbers of n bits with the same bits are the same
 --   certificate-numbers   those that Certify writes are of 64 bits
 --   certificate-only      a certificate of such numbers is the only one
 use mathlib.Core.Path.{_≡_, refl, sym, ap, _∙_}
@@ -33,7 +34,7 @@ bits-same (suc n) x y h =
     cc (low, high)
 
 -- so numbers of n bits with the same bits are the same
-number-same : (n x y : ℕ) → x < 2 ^ n → y < 2 ^ n → ((r : ℕ) → r < n → odd (x / 2 ^ r) ≡ odd (y / 2 ^ r)) → x ≡ y
+pub number-same : (n x y : ℕ) → x < 2 ^ n → y < 2 ^ n → ((r : ℕ) → r < n → odd (x / 2 ^ r) ≡ odd (y / 2 ^ r)) → x ≡ y
 number-same n x y l m h = sym (number-bits n x l) ∙ ap number (bits-same n x y h) ∙ number-bits n y m
 
 -- the numbers that Certify writes are of 64 bits

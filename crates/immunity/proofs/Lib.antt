@@ -1,6 +1,7 @@
 -- Laws of judgements, the mark, witnesses and certificates.
 pub mod CertificateBits
 pub mod Certificates
+pub mod CertificateTest
 pub mod CertificateNumbers
 pub mod Equal
 pub mod First

@@ -1,6 +1,7 @@
 -- Annihilators, ranks that differ, each side's own degree, the mark, witnesses and certificates.
 pub mod Annihilator
 pub mod Certificate
+pub mod CertificateTest
 pub mod First
 pub mod Judgement
 pub mod Mark

@@ -1,5 +1,5 @@
 // Restricted algebraic immunity: definitions and laws, and the two types that they share with the code.
-// docs/SPECIFICATION.md, 'Words', 'Judge', 'Witness' and 'Certificate'.
+// docs/SPECIFICATION.md, 'Words', 'Judge', 'Witness', 'Certificate' and 'Check'.
 
 // The ranks of the set, of part 1 and of part 0 at one degree.
 pub struct Ranks {
