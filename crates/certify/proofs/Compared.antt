@@ -18,7 +18,7 @@ use Rattle.cube.specs.NumberLists.{isEmpty}
 use Rattle.cube.specs.Mask.{points}
 use Rattle.filter.specs.Filter.{Filter}
 use Rattle.filter.specs.Checks.{degreeUpTo, sideUpTo1, filterMasks}
-use Rattle.filter.proofs.Filters.{a-filter, passes}
+use Rattle.filter.proofs.Filters.{a-filter, some-point, passes}
 use Rattle.immunity.specs.Judgement.{EqualRanks, differs}
 use Rattle.immunity.specs.Certificate.{certificate}
 use Rattle.certify.specs.Certify.{certifyInputs, ranksEqual, certifyOutcome, CertifyAccepts}
@@ -26,6 +26,7 @@ use Rattle.certify.specs.Certify.{certifyInputs, ranksEqual, certifyOutc
 -- what checks of the inputs that pass show
 pub record Passes (n : ℕ) (s f : List ℕ) (side d m l : ℕ) : Type 0 where
   pub filter : Filter n s f
+  pub some : isEmpty (points s) ≡ false
   pub workspace-long : m ≡ 8192
   pub certificate-long : l ≡ 4096
   pub low : d ≤ n
@@ -39,6 +40,7 @@ module _ (n : ℕ) (s f : List ℕ) (side d : ℕ) where
       let (masks, (degree, (up, _))) = all-append (filterMasks n s f) (degreeUpTo d n ++ sideUpTo1 side) .0 rest in
       record {
         filter = a-filter n s f set table tapped masks;
+        some = some-point n s f masks;
         workspace-long = eqb-true m 8192 workspace;
         certificate-long = eqb-true l 4096 certificate;
         low = leb-true d n degree;

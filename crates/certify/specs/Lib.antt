@@ -1,3 +1,5 @@
--- Certify, and what it does in the workspace.
+-- Certify and what it does in the workspace, and Check.
 pub mod Certify
+pub mod Check
+pub mod CheckedRows
 pub mod Sums

@@ -1,5 +1,5 @@
 // Certify: docs/SPECIFICATION.md, 'Certify'. For each point of the set outside a side's part, points of the part whose
-// rows sum to its row.
+// rows sum to its row. Check, of certificates that anybody made, is check.rt.
 ghost use mathlib.Core.Path.{_≡_};
 ghost use lib.ListN.{length};
 ghost use Rattle.refusal.specs.Verdict.{verdict};
@@ -27,6 +27,8 @@ use point_rows::fill_rows;
 use refusal::Refusal;
 use refusal::verdict::Verdict;
 
+pub mod check; // check.rt: Check, whether numbers are a certificate
+mod checked_rows; // checked_rows.rt: the rows of a certificate, checked
 mod sums; // sums.rt: the sums of the points outside a part
 
 // The numbers of a certificate: a row for each of 512 points.

@@ -1,0 +1,54 @@
+use borrow.Author.Needs.{needs}
+use mathlib.Core.Path.{_≡_, _∙_}
+use lib.ListN.{length}
+use Rattle.order.proofs.BuiltIn.{graded-is-graded}
+use Rattle.filter.proofs.Filters.{few-taps}
+use Rattle.certify.proofs.Compared.{Passes}
+use Rattle.certify.proofs.Checked.{check-shown, rows-checked}
+use Rattle.certify.proofs.check.is_certificate.Statement.{statement}
+use Rattle.certify.proofs.check.is_certificate.Tie as tie
+
+-- what the checks have shown
+shown : (c : tie.Start) → let a = c .args in Passes (a .n) (a .set .now) (a .table .now) (a .side) (a .d) 8192 (length (a .certificate .now))
+shown c = let a = c .args in check-shown (a .set .now) (a .table .now) (a .n) (a .side) (a .d) (length (a .certificate .now)) (c .pre)
+
+-- the mask of the part is 512 long
+long-part : (c : tie.After-part-mask) → length (c .part-mask .result) ≡ 512
+long-part c = search needs
+
+part-mask-requires : tie.Need-part-mask-requires
+part-mask-requires c κs = let p = shown (c .before .before .before) .filter in (p .set-long, p .table-long)
+
+columns-row-requires : tie.Need-columns-row-requires
+columns-row-requires c κs = let s = c .before .before .before .before .before .before in few-taps (s .args .n) (s .args .set .now) (s .args .table .now) (shown s .filter)
+
+rows-right-requires : tie.Need-rows-right-requires
+rows-right-requires c κs =
+    let k = c .before in
+    let o = k .before in
+    let m = o .before .before in
+    let p = shown (m .before .before .before .before) in
+    (p .certificate-long, p .filter .set-long, long-part m, o .others-row .ensures .0, k .columns-row .ensures .0)
+
+returns : tie.Need-returns
+returns c =
+    let k = c .before .before in
+    let o = k .before in
+    let m = o .before .before in
+    let s = m .before .before .before .before in
+    let p = shown s in
+    c .rows-right .ensures
+    ∙ rows-checked graded-is-graded (p .filter) (s .args .side) (s .args .d) (m .part-mask .result) (s .args .certificate .now)
+    (m .part-mask .ensures) (long-part m) (p .certificate-long) (o .others-row .ensures .1) (k .columns-row .ensures .1)
+
+pub is-certificate-spec : {M : Type 1} → statement M
+is-certificate-spec =
+    tie.close
+    (tie.spec
+    part-mask-requires
+    (λ c. search needs)
+    (λ c κs. search needs)
+    columns-row-requires
+    (λ c. search needs)
+    rows-right-requires
+    returns)
