@@ -5,16 +5,18 @@
 --   RankStatus o ..      the status, the workspace, the rank and the additions after Rank
 --   JudgeStatus o ..     the status, the workspace, the witness buffers and the report after Judge
 --   CertifyStatus o ..   the status, the workspace and the certificate after Certify
+--   CheckStatus o ..     the status and the number for yes or no after Check
 --   inFront part copy    a buffer with a part at its front, as many bytes as it has room for
 --   HandOverStatus ..    the length of the part that Hand over hands back, and its copy
 use mathlib.Core.Path.{_≡_}
 use mathlib.Core.Logic.{_↔_}
+use mathlib.Core.Bool.{Bool}
 use mathlib.Core.List.{List, _++_}
 use mathlib.Core.Option.{none, some}
 use Prim.Native.Nat.{ℕ, min}
 use lib.ListN.{length, getD, take, drop}
 use Rattle.cube.specs.NumberLists.{lists}
-use Rattle.cube.specs.Mask.{mask}
+use Rattle.cube.specs.Mask.{byte, mask}
 use Rattle.refusal.specs.Outcome.{Outcome, accepted, left, leftBy}
 use Rattle.filter_file.specs.File.{Contents}
 use Rattle.matrix.specs.declared.rank.Ranked.{Ranked}
@@ -62,6 +64,11 @@ pub record CertifyStatus (o : Outcome (List ℕ)) (ws ws′ c c′ : List ℕ) (
   pub status : r ≡ statusOf o
   pub workspace : ws′ ≡ clearedUnless o ws
   pub certificate : c′ ≡ leftBy o c (λ x. x)
+
+-- Check: the number for the answer at entry and at exit, 1 for yes and 0 for no
+pub record CheckStatus (o : Outcome Bool) (y y′ r : ℕ) : Type 0 where
+  pub status : r ≡ statusOf o
+  pub answer : y′ ≡ leftBy o y byte
 
 -- the bytes of a part in front of a buffer, as many as it has room for
 unfoldable pub inFront : List ℕ → List ℕ → List ℕ

@@ -13,12 +13,14 @@ ghost use Rattle.filter_file.specs.Read.{readOutcome};
 ghost use Rattle.filter_file.specs.Write.{writeOutcome};
 ghost use Rattle.judge.specs.Judge.{judgeOutcome};
 ghost use Rattle.certify.specs.Certify.{certifyOutcome};
+ghost use Rattle.certify.specs.Check.{checkOutcome};
 ghost use Rattle.exports.specs.Status.{statusOf};
-ghost use Rattle.exports.specs.Exported.{ReadStatus, WriteStatus, RankStatus, JudgeStatus, CertifyStatus, inFront, HandOverStatus};
+ghost use Rattle.exports.specs.Exported.{ReadStatus, WriteStatus, RankStatus, JudgeStatus, CertifyStatus, CheckStatus, inFront, HandOverStatus};
 use crate::report::REPORT;
 use crate::report::report_of;
 use buffer::append;
 use certify::CertifyAnswer;
+use certify::check::CheckAnswer;
 use filter_file::read::ReadAnswer;
 use filter_file::write::WriteAnswer;
 use judge::Finding;
@@ -153,6 +155,32 @@ pub extern "C" fn ekthavrul_certify(
     match certify::certify(set, table, n, side, d, workspace, certificate) {
         CertifyAnswer::Refused(x) => refusal::number(x),
         CertifyAnswer::Accepted => 0,
+    }
+}
+
+// Check: 1 for yes, or 0 for no, goes to `yes`.
+#[no_mangle]
+pub extern "C" fn ekthavrul_check(
+    set: &[u8],
+    table: &[u8],
+    n: usize,
+    side: u8,
+    d: usize,
+    certificate: &[u64],
+    yes: &mut u8,
+) -> u8
+    ensures { λ r. ⌜ CheckStatus (checkOutcome graded (now (set .entry)) (now (table .entry)) n side d (now (certificate .entry))) (now (yes .entry)) (now (yes .exit)) r ⌝ }
+{
+    match certify::check::check(set, table, n, side, d, certificate) {
+        CheckAnswer::Refused(x) => refusal::number(x),
+        CheckAnswer::Yes => {
+            *yes = 1;
+            0
+        }
+        CheckAnswer::No => {
+            *yes = 0;
+            0
+        }
     }
 }
 
