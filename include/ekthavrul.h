@@ -148,6 +148,19 @@ uint8_t ekthavrul_certify(const uint8_t *set, size_t set_length, const uint8_t *
                           size_t certificate_length);
 
 /*
+ * Check: whether the numbers are a certificate of the side at degree d, whoever made it. The certificate names the
+ * point q for the point a if bit q % 64 of certificate[8 * a + q / 64] is 1. `*yes` becomes 1 exactly if for each point
+ * of S outside the part only points of the part are named and their rows at degree d sum to its row, and every other
+ * bit of the EKTHAVRUL_CERTIFICATE numbers is 0; else it becomes 0. What Certify writes gets a yes, and so do other
+ * sums that are right. A yes implies that the ranks of S and of the part are equal at d, whoever made the certificate:
+ * no polynomial up to degree d is zero on the part and not on all of S. Where they differ, every certificate gets a no.
+ * Any numbers may be lent, and nothing but `*yes` is written; where Check refuses, it is as it was.
+ * Refusals: LENGTH (set, table, certificate), TAPS, BYTES (set, then table), EMPTY_SET, DEGREE, SIDE.
+ */
+uint8_t ekthavrul_check(const uint8_t *set, size_t set_length, const uint8_t *table, size_t table_length, size_t n,
+                        uint8_t side, size_t d, const uint64_t *certificate, size_t certificate_length, uint8_t *yes);
+
+/*
  * Hand over: answers the length of the side's part of the two witness buffers, which is 2^n: the coefficients of the
  * exponents below 2^n. The part is copied to the front of `copy`, as many bytes as there is room for.
  * Its only refusal is the length 0, with `copy` as it was: n, the side or the length of a buffer is wrong.

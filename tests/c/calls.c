@@ -128,6 +128,38 @@ static void check_certify(void) {
     expect(certify(1, 1) == EKTHAVRUL_RANKS_DIFFER, "Certify refuses where the ranks differ");
 }
 
+/* Check of the certificate, so many of its numbers, for side 0 of the filter of two taps at the degree; its status. */
+static uint8_t check(size_t d, size_t length, uint8_t *yes) {
+    return ekthavrul_check(set, POINTS, table, POINTS, 2, 0, d, certificate, length, yes);
+}
+
+/* Check answers so for side 0 of case 5 at the degree, and leaves the certificate as it was. */
+static void check_answer(size_t d, uint8_t wanted, const char *what) {
+    static uint64_t entry[EKTHAVRUL_CERTIFICATE];
+    uint8_t yes = 77;
+    memcpy(entry, certificate, sizeof entry);
+    expect(check(d, EKTHAVRUL_CERTIFICATE, &yes) == 0 && yes == wanted, what);
+    expect(memcmp(entry, certificate, sizeof entry) == 0, "the certificate after Check");
+}
+
+/* Check: case 5, the point 3 of side 0 as a sum of 0, which Certify leaves, of 0, 1 and 2, and of 0 and 1. */
+static void check_check(void) {
+    uint64_t *sum = certificate + 3 * EKTHAVRUL_ROW_WORDS;
+    uint8_t yes = 77;
+    check_answer(0, 1, "Check says yes to what Certify wrote");
+    check_answer(1, 0, "Check says no at a higher degree");
+    *sum = 7;
+    check_answer(1, 1, "Check says yes to another sum");
+    check_answer(2, 0, "Check says no where the ranks differ");
+    *sum = 3;
+    check_answer(0, 0, "Check says no to a wrong sum");
+    *sum = 1;
+    certificate[EKTHAVRUL_CERTIFICATE - 1] = 1;
+    check_answer(0, 0, "Check says no to a bit of the last number");
+    expect(check(3, EKTHAVRUL_CERTIFICATE, &yes) == EKTHAVRUL_DEGREE && yes == 77, "Check refuses a degree");
+    expect(check(0, EKTHAVRUL_CERTIFICATE - 1, &yes) == EKTHAVRUL_LENGTH && yes == 77, "Check refuses a length");
+}
+
 /* Judge of the point 0 of one tap, with f one at the listed points: side 1's own degree and side 0's. */
 static void check_own_degrees(const int *points, uint32_t of_one, uint32_t of_zero, const char *what) {
     uint32_t report[EKTHAVRUL_REPORT];
@@ -157,6 +189,7 @@ int main(void) {
     check_report();
     check_hand_over();
     check_certify();
+    check_check();
     check_own_degrees((int[]){-1}, 0, EKTHAVRUL_NO_DEGREE, "Judge, case 8");
     check_own_degrees((int[]){0, -1}, EKTHAVRUL_NO_DEGREE, 0, "Judge, case 9");
     check_mark();
