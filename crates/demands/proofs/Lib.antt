@@ -1,5 +1,6 @@
 -- The demands, the sentences and the promises of the requests beside them hold, and so do the numbered cases.
 pub mod Cases
+pub mod Check
 pub mod Demand1
 pub mod Demand2
 pub mod Demand3

@@ -2,7 +2,9 @@
 --   rank-refuses      what Rank refuses
 --   judge-refuses     what Judge refuses
 --   certify-refuses   what Certify refuses
+--   check-refuses     what Check refuses
 --   write-refuses     what Write refuses
+--   same-rank         equal ranks are the same rank
 use mathlib.Core.Path.{_≡_, sym, _∙_, subst}
 use mathlib.Core.Logic.{_↔_}
 use mathlib.Core.Bool.{true, not}
@@ -28,9 +30,12 @@ use Rattle.filter.specs.Part.{part}
 use Rattle.filter_file.specs.Write.{fileOf, writeInputs, roomFor, writeOutcome}
 use Rattle.immunity.specs.Judgement.{EqualRanks, differs, judged}
 use Rattle.immunity.specs.Certificate.{certificate}
+use Rattle.immunity.specs.CertificateTest.{certifies}
 use Rattle.judge.specs.Judge.{judgeChecks, judgeOutcome}
 use Rattle.certify.specs.Certify.{certifyInputs, ranksEqual, certifyOutcome}
+use Rattle.certify.specs.Check.{checkInputs, checkOutcome}
 use Rattle.demands.specs.JudgementWords.{SameRank, rankRules, judgeRules, certifyRules}
+use Rattle.demands.specs.Check.{checkRules}
 use Rattle.demands.specs.Write.{writeRules}
 
 -- two numbers are equal
@@ -42,7 +47,7 @@ most-says : (a b : ℕ) → (leb a b ≡ true) ↔ (a ≤ b)
 most-says a b = (leb-true a b, le-leb a b)
 
 -- equal ranks are the same rank
-same-rank : (n d : ℕ) (s f : List ℕ) (side : ℕ) → EqualRanks graded n s f side d ↔ SameRank n d (points s) (part side s f)
+pub same-rank : (n d : ℕ) (s f : List ℕ) (side : ℕ) → EqualRanks graded n s f side d ↔ SameRank n d (points s) (part side s f)
 same-rank n d s f side = (
   λ e. (rankOf graded n d (points s), rank-of graded n d (points s), subst (Rank (rows graded n d (part side s f))) (sym e) (rank-of graded n d (part side s f))),
   λ (r, set, part-rank). rank-unique (rank-of graded n d (points s)) set ∙ rank-unique part-rank (rank-of graded n d (part side s f)),
@@ -77,6 +82,15 @@ certify-refuses n s f side d m l k = refused-first (certificate graded n s f sid
     {cs = certifyInputs s f n side d m l ++ ranksEqual graded s f n side d} {rs = certifyRules s f n side d m l}
     (equal-says (length s) 512 also equal-says (length f) 512 also equal-says m 8192 also equal-says l 4096 also taps-range n
     also formed-says n s also formed-says n f also has-point-says s also most-says d n also most-says side 1 also equal-ranks-say n d s f side also nothing)
+
+-- what Check refuses
+pub check-refuses : (s f : List ℕ) (n side d : ℕ) (c : List ℕ) (k : ℕ) → (checkOutcome graded s f n side d c ≡ refused k)
+    ↔ FirstBroken (checkRules s f n side d (length c)) k
+unfolding checkOutcome
+check-refuses s f n side d c k = refused-first (certifies graded n d (points s) (part side s f) c) k
+    {cs = checkInputs s f n side d (length c)} {rs = checkRules s f n side d (length c)}
+    (equal-says (length s) 512 also equal-says (length f) 512 also equal-says (length c) 4096 also taps-range n
+    also formed-says n s also formed-says n f also has-point-says s also most-says d n also most-says side 1 also nothing)
 
 -- what Write refuses
 pub write-refuses : (n : ℕ) (s f : List ℕ) (m k : ℕ) → (writeOutcome s f n m ≡ refused k) ↔ FirstBroken (writeRules s f n m) k

@@ -1,5 +1,5 @@
 -- The sentences of docs/SPECIFICATION.md on ranks and judgements that the demands do not state, 'Elimination' to 'Hand
--- over' with what 'Words', 'Outcomes' and 'Sheet' say of them, about the definitions that the contracts equate with what
+-- over' but 'Check', with what 'Words', 'Outcomes' and 'Sheet' say of them, about the definitions that the contracts equate with what
 -- the code answers and leaves.
 --   SameRank n d ps qs             the points ps and qs have the same rank at degree d
 --   rankRules b n d m              the rules of Rank, lent the mask b and a workspace of m numbers, in the order of checking

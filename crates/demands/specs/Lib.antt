@@ -1,5 +1,6 @@
 -- The demands on the whole, the sentences on ranks and judgements and the promises of the requests beside them, and the numbered cases.
 pub mod Cases
+pub mod Check
 pub mod Demands
 pub mod JudgementWords
 pub mod Mark
