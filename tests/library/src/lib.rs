@@ -1,6 +1,7 @@
 // Safe calls of the proved static library. Each answers what the library wrote, or the number of its refusal.
 // Lent buffers may have any length: the library judges it.
 mod certify;
+mod check;
 mod convert;
 mod degree;
 mod hand_over;
@@ -10,6 +11,7 @@ mod read;
 mod write;
 
 pub use certify::certify;
+pub use check::check;
 pub use convert::convert;
 pub use degree::degree;
 pub use hand_over::hand_over;

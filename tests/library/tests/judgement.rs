@@ -35,7 +35,8 @@ fn lend_judge(random: &mut Random, filter: Filter, [workspace, one, zero]: [usiz
 }
 
 // Both Certifies with a workspace and a certificate of these lengths full of random numbers: the same answer and the
-// same whole buffers; the workspace zero where it is accepted or refused by 12, and else every buffer as it was.
+// same whole buffers; the workspace zero where it is accepted or refused by 12, and else every buffer as it was. Check
+// says yes to what is written, and no to what 12 leaves, the random numbers.
 fn lend_certify(random: &mut Random, filter: Filter, side: u8, d: usize, lengths: [usize; 2]) -> Result<(), u8> {
     let entry = lengths.map(|length| random.words(length));
     let [(proved, exit), (plain, plain_exit)] = [library::certify as Certify, certify].map(|certify| {
@@ -49,6 +50,9 @@ fn lend_certify(random: &mut Random, filter: Filter, side: u8, d: usize, lengths
     assert!(!cleared || exit[0].iter().all(|word| *word == 0), "numbers left in the workspace");
     assert!(cleared || exit[0] == entry[0], "a refusal wrote in the workspace");
     assert!(proved.is_ok() || exit[1] == entry[1], "a refusal wrote in the certificate");
+    let checked = cleared.then(|| library::check(filter, side, d, &exit[1]));
+    let wanted = cleared.then_some(Ok(proved.is_ok()));
+    assert_eq!(checked, wanted, "Check after Certify of {filter:?}, side {side}, d = {d}");
     proved
 }
 
