@@ -1,5 +1,5 @@
 // The contenders in C; no_c.rs stands in the stead of this file where there was no compiler.
-use crate::contenders::{Certify, Judge, Rank};
+use crate::contenders::{Certify, Check, Judge, Rank};
 use independent::judgement::Judgement;
 use independent::rank::Ranking;
 
@@ -28,6 +28,7 @@ unsafe extern "C" {
         workspace: *mut u64,
         certificate: *mut u64,
     ) -> u8;
+    fn c_check(set: *const u8, table: *const u8, n: usize, side: u8, d: usize, certificate: *const u64) -> u8;
 }
 
 // Rank.
@@ -60,4 +61,11 @@ pub const CERTIFY: Option<Certify> = Some(|filter, side, d, workspace, certifica
     let (set, table, workspace) = (filter.set.as_ptr(), filter.table.as_ptr(), workspace.as_mut_ptr());
     let status = unsafe { c_certify(set, table, filter.n, side, d, workspace, certificate.as_mut_ptr()) };
     if status == 0 { Ok(()) } else { Err(status) }
+});
+
+// Check.
+pub const CHECK: Option<Check> = Some(|filter, side, d, certificate| {
+    assert_eq!((filter.set.len(), filter.table.len(), certificate.len()), (512, 512, 4096));
+    let (set, table) = (filter.set.as_ptr(), filter.table.as_ptr());
+    unsafe { c_check(set, table, filter.n, side, d, certificate.as_ptr()) == 1 }
 });

@@ -1,7 +1,8 @@
 // The contenders of each operation, in this order: proved, in Rust, in C, and M4RI for the ranks of Judge.
+use crate::certificates::Certificate;
 use crate::judge::part_mask;
 use crate::timing::Contender;
-use crate::{c, certify, elimination, judge, m4ri};
+use crate::{c, certify, check, elimination, judge, m4ri};
 use independent::filter::Filter;
 use independent::judgement::Judgement;
 use independent::rank::Ranking;
@@ -10,6 +11,7 @@ use std::time::Duration;
 pub type Rank = fn(&[u8], usize, usize, &mut [u64]) -> Ranking;
 pub type Judge = fn(Filter, &mut [u64], &mut [u8], &mut [u8]) -> Judgement;
 pub type Certify = fn(Filter, u8, usize, &mut [u64], &mut [u64]) -> Result<(), u8>;
+pub type Check = fn(Filter, u8, usize, &[u64]) -> bool;
 pub type RankSum = fn([&[u8; 512]; 3], usize) -> (usize, [Duration; 2]);
 
 // What Judge answers and leaves in the witness buffers, and what Certify answers and leaves in the certificate.
@@ -71,4 +73,24 @@ pub fn certifies(filter: Filter<'_>, side: u8, d: usize) -> Vec<Contender<'_, Ce
         })
     };
     [Some(library::certify as Certify), Some(certify::certify), c::CERTIFY].into_iter().flatten().map(boxed).collect()
+}
+
+// Check of the certificate, last by the independent implementation.
+pub fn checks<'a>(certificate: &'a Certificate) -> Vec<Contender<'a, bool>> {
+    let Certificate { filter, side, d, numbers } = certificate;
+    let proved: Check = |filter, side, d, numbers| library::check(filter, side, d, numbers).expect("accepted");
+    let plain: Check =
+        |filter, side, d, numbers| independent::check::check(filter, side, d, numbers).expect("accepted");
+    let boxed = |check: Check| -> Contender<bool> { Box::new(move |_| check(*filter, *side, *d, numbers)) };
+    [Some(proved), Some(check::check), c::CHECK, Some(plain)].into_iter().flatten().map(boxed).collect()
+}
+
+// The same of a certificate that gets a yes, and in the second place the proved Certify of its side and degree, which
+// accepts.
+pub fn checks_and_certify<'a>(certificate: &'a Certificate) -> Vec<Contender<'a, bool>> {
+    let Certificate { filter, side, d, .. } = certificate;
+    let mut contenders = checks(certificate);
+    let certify = |workspace: &mut [u64]| library::certify(*filter, *side, *d, workspace, &mut vec![0; 4096]).is_ok();
+    contenders.insert(1, Box::new(certify));
+    contenders
 }

@@ -2,7 +2,9 @@
 // algorithms in Rust and C at -O3, and against M4RI, in one run.
 #[cfg_attr(not(has_c), path = "no_c.rs")]
 mod c; // c.rs: the contenders in C
+mod certificates; // certificates.rs: the certificates that Check is timed on
 mod certify; // certify.rs: Certify in Rust
+mod check; // check.rs: Check in Rust
 mod contenders; // contenders.rs: the contenders of each operation
 mod elimination; // elimination.rs: the eliminations in Rust
 mod judge; // judge.rs: Judge in Rust
@@ -11,7 +13,8 @@ mod m4ri; // m4ri.rs: the ranks by M4RI
 mod operations; // operations.rs: the operations on one filter, and their times
 mod timing; // timing.rs: several contenders timed in one run
 
-use contenders::{certifies, judges, m4ri_steps, ranks};
+use certificates::{Certificate, certificates};
+use contenders::{certifies, checks, checks_and_certify, judges, m4ri_steps, ranks};
 use independent::filter::Filter;
 use independent::normal_form::weight;
 use independent::random::Random;
@@ -23,18 +26,22 @@ const RUNS: usize = 120;
 const FEW: usize = 10; // of the independent implementation, which is slow, and of each of several tables
 const TABLES: u64 = 12;
 const WRITE_LIMIT: f64 = 2.0; // of the time of Write over that of Read, on the longest file
+const CHECK_LIMIT: f64 = 1.0; // of the time of Check over that of Certify at the same side and degree
 
-// The heads of the columns of times: the contenders that there are.
-fn heads(m4ri: bool) -> String {
-    let others = [("Rust", true), ("C", cfg!(has_c)), ("M4RI", m4ri && cfg!(has_m4ri))];
-    let there = others.iter().filter(|(_, there)| *there);
-    format!("{:>10}{}", "proved", there.map(|(name, _)| format!("{name:>10}  ratio")).collect::<String>())
+// The heads of the columns of times: proved, and of the others those that there are.
+fn heads(others: &[&str]) -> String {
+    let there = others.iter().filter(|name| match **name {
+        "C" => cfg!(has_c),
+        "M4RI" => cfg!(has_m4ri),
+        _ => true,
+    });
+    format!("{:>10}{}", "proved", there.map(|name| format!("{name:>10}  ratio")).collect::<String>())
 }
 
 // Rank at n = 9 and every degree, with the means.
 fn bench_rank(title: &str, mask: &[u8]) {
     println!("Rank, n = 9, {title}; microseconds, least of {RUNS} runs, the degrees in turn");
-    println!(" d  rank additions{}", heads(false));
+    println!(" d  rank additions{}", heads(&["Rust", "C"]));
     let found = race(RUNS, &[0, 1, 2, 3, 4, 5, 6, 7, 8, 9].map(|d| ranks(mask, d)));
     for (d, (ranking, times)) in found.iter().enumerate() {
         println!("{d:2} {:5} {:9}{}", ranking.rank, ranking.additions, line(times));
@@ -49,7 +56,7 @@ fn bench_judgement(title: &str, set: &[u8]) {
     println!(
         "Judge and Certify, n = 9, {title}; microseconds, least of {FEW} runs, mean of {TABLES} random tables in turn"
     );
-    println!("                 {}", heads(true));
+    println!("                 {}", heads(&["Rust", "C", "M4RI"]));
     let judged = race(FEW, &filters.iter().map(|filter| judges(*filter)).collect::<Vec<_>>());
     println!("Judge            {}", line(&means(&judged)));
     if let Some([build, echelonize]) = m4ri_steps(RUNS, filters[0]) {
@@ -62,15 +69,34 @@ fn bench_judgement(title: &str, set: &[u8]) {
     }
 }
 
+// Every n with every kind of set and table.
+fn kinds() -> Vec<(usize, (usize, usize))> {
+    pairs(&[1, 2, 3, 4, 5, 6, 7, 8, 9], &pairs(&[0, 1, 2, 3, 4, 5], &[0, 1, 2, 3, 4]))
+}
+
 // Judge of a filter of every n and every kind of set and table, once by each contender: the same answers.
 fn compare_judges() {
     let mut random = Random(2);
-    let kinds = pairs(&[1, 2, 3, 4, 5, 6, 7, 8, 9], &pairs(&[0, 1, 2, 3, 4, 5], &[0, 1, 2, 3, 4]));
-    for (n, (for_set, for_table)) in &kinds {
-        let (set, table) = (random.set(*n, *for_set), random.table(*n, *for_table));
-        race(1, &[judges(Filter { n: *n, set: &set, table: &table })]);
+    for (n, (for_set, for_table)) in kinds() {
+        let (set, table) = (random.set(n, for_set), random.table(n, for_table));
+        race(1, &[judges(Filter { n, set: &set, table: &table })]);
     }
-    println!("Judge of {} filters of one to nine taps: every contender gives the proved answer", kinds.len());
+    println!("Judge of {} filters of one to nine taps: every contender gives the proved answer", kinds().len());
+}
+
+// Check of every certificate of Certify of such filters, as it is and with a bit changed, once by each contender: the
+// same answers.
+fn compare_checks() {
+    let (mut random, mut answers) = (Random(5), Vec::new());
+    for (n, (for_set, for_table)) in kinds() {
+        let (set, table) = (random.set(n, for_set), random.table(n, for_table));
+        for own in certificates(Filter { n, set: &set, table: &table }) {
+            let found = race(1, &[checks(&own), checks(&own.damaged(&mut random))]);
+            answers.extend(found.iter().map(|(yes, _)| *yes));
+        }
+    }
+    let yes = answers.iter().filter(|yes| **yes).count();
+    println!("Check of {} certificates, {yes} of them right: every contender gives the proved answer", answers.len());
 }
 
 // Every operation on a filter of nine taps, proved and independent.
@@ -93,6 +119,27 @@ fn bench_longest_file(all: &[u8]) {
     let times = subject.file_times(RUNS);
     println!("proved   {}", line(&times));
     assert!(times[0] <= WRITE_LIMIT * times[1], "Write of the longest file takes longer than its limit");
+}
+
+// Check at n = 9 of each side at each degree below the reported one: what Certify writes, and longer sums. Check keeps
+// to its limit.
+fn bench_check(title: &str, set: &[u8], table: &[u8]) {
+    let (filter, mut random) = (Filter { n: 9, set, table }, Random(4));
+    let judged = library::judge(filter, &mut [0; 8192], &mut [0; 512], &mut [0; 512]).expect("accepted");
+    let own = certificates(filter).filter(|own| own.d < judged.degree);
+    let both: Vec<Certificate> = own.flat_map(|own| [own.clone(), own.with_longer_sums(&mut random)]).collect();
+    println!("Check, n = 9, {title}; microseconds, least of {RUNS} runs, all in turn");
+    println!(
+        "points: of a sum, in the mean; Certify: the proved one, ratio at most {CHECK_LIMIT}; other: the independent Check"
+    );
+    println!(" d side points{}", heads(&["Certify", "Rust", "C", "other"]));
+    let found = race(RUNS, &both.iter().map(checks_and_certify).collect::<Vec<_>>());
+    for (certificate, (yes, times)) in both.iter().zip(&found) {
+        println!("{:2} {:4} {:6.1}{}", certificate.d, certificate.side, certificate.points(), line(times));
+        assert!(*yes, "Check says no to a certificate");
+        assert!(times[0] <= CHECK_LIMIT * times[1], "Check of a certificate takes longer than its limit");
+    }
+    println!("mean         {}", line(&means(&found)));
 }
 
 // The proved operations on each of the filters, a line each.
@@ -128,11 +175,13 @@ fn main() {
         "proved: the static library; Rust and C: the same algorithms at -O3; ratio: the proved time over the other"
     );
     compare_judges();
+    compare_checks();
     bench_rank("all 512 points", &all);
     bench_rank("a random half", &half);
     bench_judgement("all 512 points", &all);
     bench_judgement("the 126 points of weight 4", &mask_of(9, |a| weight(a) == 4));
     bench_operations("all 512 points, a random table", &all, &half);
+    bench_check("all 512 points, a random table", &all, &half);
     bench_longest_file(&all);
     bench_growth("n: all points, majority", (1..=9).map(|n| (n, mask_of(n, |_| true), Random(1).table(n, 0))));
     let sizes = [16, 32, 64, 128, 192, 256, 320, 384, 448, 512];

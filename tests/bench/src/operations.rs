@@ -1,6 +1,7 @@
 // The operations on one filter, proved and by the independent implementation, each timed.
 use crate::contenders::Certify;
 use crate::timing::{Contender, means, race};
+use independent::check::check;
 use independent::filter::Filter;
 use independent::filter_file::{Triple, read, write};
 use independent::judgement::{Judgement, certify, hand_over, judge};
@@ -17,11 +18,13 @@ type Convert = fn(&mut [u8], usize) -> Result<(), u8>;
 type Degree = fn(&[u8], usize) -> Result<u32, u8>;
 type Rank = fn(&[u8], usize, usize, &mut [u64]) -> Result<Ranking, u8>;
 type Judge = fn(Filter, &mut [u64], &mut [u8], &mut [u8]) -> Result<Judgement, u8>;
+type Check = fn(Filter, u8, usize, &[u64]) -> Result<bool, u8>;
 type HandOver = fn(usize, u8, &[u8], &[u8], &mut [u8]) -> usize;
 type Sheet = fn(&[u8]) -> String;
 
 // The names of the operations that are timed, in order.
-pub const NAMES: [&str; 9] = ["Read", "Write", "Convert", "Degree", "Rank", "Judge", "Certify", "Hand over", "sheet"];
+pub const NAMES: [&str; 10] =
+    ["Read", "Write", "Convert", "Degree", "Rank", "Judge", "Certify", "Check", "Hand over", "sheet"];
 
 // No file is longer.
 const FILE_MAX: usize = 2053;
@@ -137,6 +140,12 @@ impl Subject {
         }
     }
 
+    // Check of what Certify writes.
+    fn check(&self, check: Check) -> impl Fn(&mut [u64]) -> bool {
+        let certificate = self.certify(library::certify)(&mut [0; 8192]);
+        move |_| check(self.filter(), 1, self.judgement.degree - 1, &certificate).expect("accepted")
+    }
+
     // Hand over of the reported side's witness.
     fn hand_over(&self, hand_over: HandOver) -> impl Fn(&mut [u64]) -> (usize, [u8; 512]) {
         move |_| {
@@ -152,7 +161,7 @@ impl Subject {
 
     // The least microseconds of each operation: of the proved one if the count is 1, and of the independent one besides
     // if it is 2.
-    pub fn times(&self, runs: usize, count: usize) -> [Vec<f64>; 9] {
+    pub fn times(&self, runs: usize, count: usize) -> [Vec<f64>; 10] {
         [
             timed(runs, count, [self.read(library::read), self.read(read)]),
             timed(runs, count, [self.write(library::write), self.write(write)]),
@@ -161,6 +170,7 @@ impl Subject {
             timed(runs, count, [self.rank(library::rank), self.rank(rank)]),
             timed(runs, count, [self.judge(library::judge), self.judge(judge)]),
             timed(runs, count, [self.certify(library::certify), self.certify(certify)]),
+            timed(runs, count, [self.check(library::check), self.check(check)]),
             timed(runs, count, [self.hand_over(library::hand_over), self.hand_over(hand_over_copy)]),
             timed(runs, count, [self.sheet(run_sheet), self.sheet(sheet)]),
         ]

@@ -19,6 +19,11 @@ impl Bits {
         Bits(std::array::from_fn(|k| self.0[k] ^ other.0[k]))
     }
 
+    // How many places have a one.
+    pub fn count(self) -> usize {
+        self.0.iter().map(|word| word.count_ones() as usize).sum()
+    }
+
     // The highest place with a one.
     pub fn highest(self) -> Option<usize> {
         let k = self.0.iter().rposition(|word| *word != 0)?;
