@@ -91,6 +91,6 @@ fn is_certificate(
 {
     let part = part_mask(set, table, side);
     let others = others_row(&part);
-    let columns = columns_row(n, d);
+    let columns = columns_row(n, d as u16);
     rows_right(certificate, set, &part, others, columns)
 }

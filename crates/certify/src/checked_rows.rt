@@ -38,7 +38,7 @@ pub fn others_row(part: &[u8]) -> PointRow
 }
 
 // The exponents of `n` taps that weigh at most `d`, as a row over exponents.
-pub fn columns_row(n: usize, d: usize) -> ExponentRow
+pub fn columns_row(n: usize, d: u16) -> ExponentRow
     requires { ⌜ n ≤ 9 ⌝ }
     ensures { λ r. ⌜ (length (r .0) ≡ 8) × (unpack (r .0) ≡ columnsRow n d) ⌝ }
 {

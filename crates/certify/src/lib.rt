@@ -102,7 +102,7 @@ fn certify_points(
         (now (workspace .entry)) (now (workspace .exit)) (now (certificate .entry)) (now (certificate .exit)) r ⌝ }
 {
     let part = part_mask(set, table, side);
-    let columns = column_count(order, n, d);
+    let columns = column_count(order, n, d as u16);
     let mut pivots = [0u16; COLUMNS];
     let mut places = [0u16; COLUMNS];
     fill_rows(workspace, order, n);

@@ -44,9 +44,14 @@ pub fn within(u: Exponent, a: Point) -> bool
     u.0 & a.0 == u.0
 }
 
-// The number of ones of the exponent `u`.
-pub fn weight(u: Exponent) -> u32
+// The number of ones of the exponent `u`, its population count: the ones of each pair of bits are counted, then those of
+// each nibble; then the counts of the two bytes are added, nibble by nibble, and then the two sums.
+pub fn weight(u: Exponent) -> u16
     ensures { λ r. ⌜ r ≡ weightOf (u .0) ⌝ }
 {
-    u16::count_ones(u.0)
+    let bits = u.0;
+    let pairs = bits - ((bits >> 1) & 0x5555);
+    let nibbles = (pairs & 0x3333) + ((pairs >> 2) & 0x3333);
+    let sums = (nibbles & 0x00ff) + (nibbles >> 8);
+    (sums & 0x000f) + (sums >> 4)
 }

@@ -57,7 +57,7 @@ fn column_counts(order: &[u16], n: usize) -> [u16; 10]
     let mut columns = [0u16; DEGREES];
     let mut d: usize = 0;
     while d <= n {
-        columns[d] = column_count(order, n, d) as u16;
+        columns[d] = column_count(order, n, d as u16) as u16;
         d += 1;
     }
     columns

@@ -49,7 +49,7 @@ pub extern "C" fn ekthavrul_degree(coefficients: &[u8], n: usize, degree: &mut u
     match polynomial::degree::degree(coefficients, n) {
         DegreeAnswer::Refused(x) => refusal::number(x),
         DegreeAnswer::Accepted(d) => {
-            *degree = d;
+            *degree = d as u32;
             0
         }
     }

@@ -67,7 +67,7 @@ fn rank_points(mask: &[u8], n: usize, d: usize, order: &[u16], workspace: &mut [
     ensures { λ r. ⌜ now (workspace .exit) ≡ zeros (length (now (workspace .entry))) ⌝ }
 {
     fill_rows(workspace, order, n);
-    let t = eliminate(workspace, mask, column_count(order, n, d));
+    let t = eliminate(workspace, mask, column_count(order, n, d as u16));
     clear(workspace);
     Ranked {
         rank: t.kept,

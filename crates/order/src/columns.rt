@@ -13,17 +13,17 @@ use cube::size;
 use cube::weight;
 
 // Whether the exponent `u` is below `points`, the number of points and of exponents, and weighs at most `d`.
-pub fn is_column(u: Exponent, points: usize, d: usize) -> bool
+pub fn is_column(u: Exponent, points: usize, d: u16) -> bool
     ensures { λ r. ⌜ r ≡ (ltb (u .0) points && leb (weightOf (u .0)) d) ⌝ }
 {
     if (u.0 as usize) < points {
-        return weight(u) as usize <= d;
+        return weight(u) <= d;
     }
     false
 }
 
 // The number of columns of `n` taps at degree `d`. A kernel for the crates above.
-pub fn column_count(order: &[u16], n: usize, d: usize) -> usize
+pub fn column_count(order: &[u16], n: usize, d: u16) -> usize
     requires { ⌜ Graded (now order) × (n ≤ 9) ⌝ }
     ensures { λ r. ⌜ r ≡ length (columns (now (order .entry)) n d) ⌝ }
 {

@@ -18,22 +18,22 @@ use refusal::verdict::also;
 // What Degree answers.
 pub enum DegreeAnswer {
     Refused(Refusal),
-    Accepted(u32),
+    Accepted(u16),
 }
 
 // The larger of two numbers.
-fn larger(a: u32, b: u32) -> u32
+fn larger(a: u16, b: u16) -> u16
     ensures { λ r. ⌜ r ≡ max a b ⌝ }
 {
     if a < b { b } else { a }
 }
 
 // The largest weight of an exponent with coefficient 1; 0 where there is none.
-fn largest_weight(coefficients: &[u8]) -> u32
+fn largest_weight(coefficients: &[u8]) -> u16
     requires { ⌜ length (now coefficients) ≡ 512 ⌝ }
     ensures { λ r. ⌜ r ≡ largest weightOf (exponents (now (coefficients .entry))) ⌝ }
 {
-    let mut most: u32 = 0;
+    let mut most: u16 = 0;
     let mut i: usize = 0;
     while i < POINTS {
         if coefficients[i] == 1 {

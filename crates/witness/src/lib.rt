@@ -40,7 +40,7 @@ fn clear_bytes(bytes: &mut [u8])
 }
 
 // The exponents of the columns where `x` is one are marked.
-fn mark_columns(order: &[u16], n: usize, d: usize, x: &[u64; 8], bytes: &mut [u8])
+fn mark_columns(order: &[u16], n: usize, d: u16, x: &[u64; 8], bytes: &mut [u8])
     requires { ⌜ Graded (now order) × (n ≤ 9) × (length (now x) ≡ 8) × (length (now bytes) ≡ 512) ⌝ }
     ensures { λ _. ⌜ now (bytes .exit) ≡ withOnes (chosen (unpack (now (x .entry))) (columnsOf (now (order .entry)) n d)) (now (bytes .entry)) ⌝ }
 {
@@ -98,13 +98,13 @@ fn write_witness(
 {
     clear_bytes(witness);
     let mut pivots = [0u16; COLUMNS];
-    let columns = column_count(order, n, d);
+    let columns = column_count(order, n, d as u16);
     let t = eliminate_with(ws, &mut pivots, part, columns);
     let kept = t.kept;
     if kept < COLUMNS {
         if kept < keep_new(ws, &mut pivots, set, kept, columns) {
             let x = solve_last(ws, &pivots, kept);
-            mark_columns(order, n, d, &x, witness);
+            mark_columns(order, n, d as u16, &x, witness);
         }
     }
 }

@@ -2,6 +2,7 @@
 use borrow.Author.Needs.{needs}
 use mathlib.Core.Path.{_≡_, refl, sym, ap, _∙_}
 use Prim.Native.Nat.{ℕ, _≤_}
+use native.Mathlib.Omega.{arith}
 use lib.ListN.{length, length-replicate}
 use Rattle.packed.specs.Packed.{unpacked, zeros}
 use Rattle.packed.proofs.Rows.{length-rows}
@@ -21,6 +22,9 @@ small c = few-taps _ _ _ (shown c .filter)
 
 part-mask-requires : tie.Need-part-mask-requires
 part-mask-requires c κs = let h = shown (c .before .before .before .before .before) .filter in (h .set-long, h .table-long)
+
+cast-column-count : tie.Need-cast-column-count
+cast-column-count c = let s = c .before .before .before .before .before .before in omega (arith, shown s .low, small s)
 
 column-count-requires : tie.Need-column-count-requires
 column-count-requires c κs = let s = c .before .before .before .before .before .before in (s .pre .1, small s)
@@ -131,6 +135,7 @@ certify-points-spec =
     tie.close
     (tie.spec
     part-mask-requires
+    cast-column-count
     column-count-requires
     fill-rows-requires
     eliminate-requires

@@ -44,6 +44,7 @@ column-counts-spec =
     Inv-loop
     μ-loop
     loop-holds
+    (λ c. omega arith)
     (λ c κs. search needs)
     cast-columns
     (λ c. omega arith)

@@ -23,4 +23,4 @@ returns-2 c =
 pub ekthavrul-degree-spec : {M : Type 1} → statement M
 ekthavrul-degree-spec =
     tie.close
-    (tie.spec (λ c κs. search needs) (λ c. search needs) (λ c κs. search needs) (λ c. search needs) returns returns-2)
+    (tie.spec (λ c κs. search needs) (λ c. search needs) (λ c κs. search needs) (λ c. search needs) (λ c. search needs) returns returns-2)

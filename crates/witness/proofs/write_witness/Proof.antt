@@ -105,6 +105,7 @@ write-witness-spec =
     tie.close
     (tie.spec
     (λ c κs. search needs)
+    (λ c. search needs)
     (λ c κs. search needs)
     (λ c. search needs)
     (λ c κs. search needs)
@@ -112,6 +113,7 @@ write-witness-spec =
     keep-new-requires
     (λ c. search needs)
     solve-last-requires
+    (λ c. search needs)
     mark-columns-requires
     (λ c. search needs)
     (λ c. search needs)

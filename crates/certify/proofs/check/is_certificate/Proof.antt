@@ -1,5 +1,7 @@
 use borrow.Author.Needs.{needs}
 use mathlib.Core.Path.{_≡_, _∙_}
+use Prim.Native.Nat.{_≤_}
+use native.Mathlib.Omega.{arith}
 use lib.ListN.{length}
 use Rattle.order.proofs.BuiltIn.{graded-is-graded}
 use Rattle.filter.proofs.Filters.{few-taps}
@@ -19,8 +21,15 @@ long-part c = search needs
 part-mask-requires : tie.Need-part-mask-requires
 part-mask-requires c κs = let p = shown (c .before .before .before) .filter in (p .set-long, p .table-long)
 
+-- at most nine taps
+small : (c : tie.Start) → c .args .n ≤ 9
+small c = few-taps _ _ _ (shown c .filter)
+
+cast-columns-row : tie.Need-cast-columns-row
+cast-columns-row c = let s = c .before .before .before .before .before .before in omega (arith, shown s .low, small s)
+
 columns-row-requires : tie.Need-columns-row-requires
-columns-row-requires c κs = let s = c .before .before .before .before .before .before in few-taps (s .args .n) (s .args .set .now) (s .args .table .now) (shown s .filter)
+columns-row-requires c κs = small (c .before .before .before .before .before .before)
 
 rows-right-requires : tie.Need-rows-right-requires
 rows-right-requires c κs =
@@ -48,6 +57,7 @@ is-certificate-spec =
     part-mask-requires
     (λ c. search needs)
     (λ c κs. search needs)
+    cast-columns-row
     columns-row-requires
     (λ c. search needs)
     rows-right-requires

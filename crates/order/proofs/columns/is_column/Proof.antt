@@ -10,4 +10,4 @@ returns-2 : tie.Need-returns-2
 returns-2 c = simp (le-ltb _ _ (c .if1 .left))
 
 pub is-column-spec : {M : Type 1} → statement M
-is-column-spec = tie.close (tie.spec (λ c. search needs) (λ c κs. search needs) (λ c. search needs) returns returns-2)
+is-column-spec = tie.close (tie.spec (λ c. search needs) (λ c κs. search needs) returns returns-2)
