@@ -15,4 +15,5 @@ pub mod JudgementWords
 pub mod Mark
 pub mod Sides
 pub mod Unreached
+pub mod Weight
 pub mod Write

@@ -5,4 +5,5 @@ pub mod Demands
 pub mod JudgementWords
 pub mod Mark
 pub mod Sides
+pub mod Weight
 pub mod Write
