@@ -1,5 +1,5 @@
 // The contenders in C; no_c.rs stands in the stead of this file where there was no compiler.
-use crate::contenders::{Certify, Check, Judge, Rank};
+use crate::contenders::{Certify, Check, Judge, LargestWeight, Rank};
 use independent::judgement::Judgement;
 use independent::rank::Ranking;
 
@@ -29,6 +29,8 @@ unsafe extern "C" {
         certificate: *mut u64,
     ) -> u8;
     fn c_check(set: *const u8, table: *const u8, n: usize, side: u8, d: usize, certificate: *const u64) -> u8;
+    fn c_largest_weight(coefficients: *const u8) -> u32;
+    fn c_largest_count(coefficients: *const u8) -> u32;
 }
 
 // Rank.
@@ -68,4 +70,16 @@ pub const CHECK: Option<Check> = Some(|filter, side, d, certificate| {
     assert_eq!((filter.set.len(), filter.table.len(), certificate.len()), (512, 512, 4096));
     let (set, table) = (filter.set.as_ptr(), filter.table.as_ptr());
     unsafe { c_check(set, table, filter.n, side, d, certificate.as_ptr()) == 1 }
+});
+
+// The largest weight of an exponent, by the steps of the proved weight.
+pub const LARGEST_WEIGHT: Option<LargestWeight> = Some(|coefficients| {
+    assert_eq!(coefficients.len(), 512);
+    unsafe { c_largest_weight(coefficients.as_ptr()) }
+});
+
+// The same by the compiler's count.
+pub const LARGEST_COUNT: Option<LargestWeight> = Some(|coefficients| {
+    assert_eq!(coefficients.len(), 512);
+    unsafe { c_largest_count(coefficients.as_ptr()) }
 });

@@ -2,16 +2,18 @@
 use crate::certificates::Certificate;
 use crate::judge::part_mask;
 use crate::timing::Contender;
-use crate::{c, certify, check, elimination, judge, m4ri};
+use crate::{c, certify, check, elimination, judge, largest_weight, m4ri};
 use independent::filter::Filter;
 use independent::judgement::Judgement;
 use independent::rank::Ranking;
+use std::hint::black_box;
 use std::time::Duration;
 
 pub type Rank = fn(&[u8], usize, usize, &mut [u64]) -> Ranking;
 pub type Judge = fn(Filter, &mut [u64], &mut [u8], &mut [u8]) -> Judgement;
 pub type Certify = fn(Filter, u8, usize, &mut [u64], &mut [u64]) -> Result<(), u8>;
 pub type Check = fn(Filter, u8, usize, &[u64]) -> bool;
+pub type LargestWeight = fn(&[u8]) -> u32;
 pub type RankSum = fn([&[u8; 512]; 3], usize) -> (usize, [Duration; 2]);
 
 // What Judge answers and leaves in the witness buffers, and what Certify answers and leaves in the certificate.
@@ -93,4 +95,16 @@ pub fn checks_and_certify<'a>(certificate: &'a Certificate) -> Vec<Contender<'a,
     let certify = |workspace: &mut [u64]| library::certify(*filter, *side, *d, workspace, &mut vec![0; 4096]).is_ok();
     contenders.insert(1, Box::new(certify));
     contenders
+}
+
+// So many calls of Degree of nine taps, and as many of the largest weight in Rust and in C: by the steps of the proved
+// weight, and by the compiler's count.
+pub fn weights(coefficients: &[u8], calls: usize) -> Vec<Contender<'_, u32>> {
+    let proved: LargestWeight = |coefficients| library::degree(coefficients, 9).expect("accepted");
+    let steps = [Some(proved), Some(largest_weight::by_steps), c::LARGEST_WEIGHT];
+    let counts = [Some(largest_weight::by_count as LargestWeight), c::LARGEST_COUNT];
+    let boxed = |largest: LargestWeight| -> Contender<u32> {
+        Box::new(move |_| (0..calls).map(|_| largest(black_box(coefficients))).fold(0, u32::max))
+    };
+    steps.into_iter().chain(counts).flatten().map(boxed).collect()
 }

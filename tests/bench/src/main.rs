@@ -8,30 +8,32 @@ mod check; // check.rs: Check in Rust
 mod contenders; // contenders.rs: the contenders of each operation
 mod elimination; // elimination.rs: the eliminations in Rust
 mod judge; // judge.rs: Judge in Rust
+mod largest_weight; // largest_weight.rs: the largest weight of an exponent in Rust
 #[cfg_attr(not(has_m4ri), path = "no_m4ri.rs")]
 mod m4ri; // m4ri.rs: the ranks by M4RI
 mod operations; // operations.rs: the operations on one filter, and their times
 mod timing; // timing.rs: several contenders timed in one run
 
 use certificates::{Certificate, certificates};
-use contenders::{certifies, checks, checks_and_certify, judges, m4ri_steps, ranks};
+use contenders::{certifies, checks, checks_and_certify, judges, m4ri_steps, ranks, weights};
 use independent::filter::Filter;
 use independent::normal_form::weight;
 use independent::random::Random;
 use independent::samples::{mask_of, pairs};
 use operations::{NAMES, Subject, process_start};
-use timing::{line, means, race};
+use timing::{line, line_of, means, race};
 
 const RUNS: usize = 120;
 const FEW: usize = 10; // of the independent implementation, which is slow, and of each of several tables
 const TABLES: u64 = 12;
+const CALLS: usize = 100; // in a row where one is too short to time
 const WRITE_LIMIT: f64 = 2.0; // of the time of Write over that of Read, on the longest file
 const CHECK_LIMIT: f64 = 1.0; // of the time of Check over that of Certify at the same side and degree
 
 // The heads of the columns of times: proved, and of the others those that there are.
 fn heads(others: &[&str]) -> String {
     let there = others.iter().filter(|name| match **name {
-        "C" => cfg!(has_c),
+        "C" | "C ones" => cfg!(has_c),
         "M4RI" => cfg!(has_m4ri),
         _ => true,
     });
@@ -142,6 +144,16 @@ fn bench_check(title: &str, set: &[u8], table: &[u8]) {
     println!("mean         {}", line(&means(&found)));
 }
 
+// Degree of the polynomial that has all 512 exponents, each of which it weighs: the time for one of them.
+fn bench_weight(all: &[u8]) {
+    println!("Weight, n = 9, all 512 exponents; nanoseconds an exponent, least of {RUNS} runs of {CALLS} calls");
+    println!("proved: Degree; Rust and C: the largest weight by the same steps; ones: by the compiler's count of ones");
+    println!("         {}", heads(&["Rust", "C", "Rust ones", "C ones"]));
+    let times = means(&race(RUNS, &[weights(all, CALLS)]));
+    let one: Vec<f64> = times.iter().map(|time| time * 1e3 / (CALLS * all.len()) as f64).collect();
+    println!("weight   {}", line_of(&one, 2));
+}
+
 // The proved operations on each of the filters, a line each.
 fn bench_growth(title: &str, filters: impl Iterator<Item = (usize, Vec<u8>, Vec<u8>)>) {
     println!("Growth with {title}; the proved operations, microseconds, least of {RUNS} runs");
@@ -183,6 +195,7 @@ fn main() {
     bench_operations("all 512 points, a random table", &all, &half);
     bench_check("all 512 points, a random table", &all, &half);
     bench_longest_file(&all);
+    bench_weight(&all);
     bench_growth("n: all points, majority", (1..=9).map(|n| (n, mask_of(n, |_| true), Random(1).table(n, 0))));
     let sizes = [16, 32, 64, 128, 192, 256, 320, 384, 448, 512];
     bench_growth("the set: points and a table at random", sizes.map(|m| (9, some_points(m), half.clone())).into_iter());

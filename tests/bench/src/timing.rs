@@ -36,8 +36,13 @@ pub fn means<A>(found: &[(A, Vec<f64>)]) -> Vec<f64> {
     (0..found[0].1.len()).map(mean).collect()
 }
 
-// The times in microseconds, and the first one's ratio to each of the others.
+// The times with so many digits behind the point, and the first one's ratio to each of the others.
+pub fn line_of(times: &[f64], digits: usize) -> String {
+    let others = times[1..].iter().map(|other| format!("{other:10.digits$} {:6.2}", times[0] / other));
+    format!("{:10.digits$}{}", times[0], others.collect::<String>())
+}
+
+// The same of times in microseconds.
 pub fn line(times: &[f64]) -> String {
-    let others = times[1..].iter().map(|other| format!("{other:10.1} {:6.2}", times[0] / other));
-    format!("{:10.1}{}", times[0], others.collect::<String>())
+    line_of(times, 1)
 }
