@@ -1,5 +1,6 @@
 -- What the checks of Certify's inputs show, and what is left to check.
 --   Passes ..          what checks of the inputs that pass show
+--   few-degrees        the degree is then at most 9
 --   certify-passed     checks that pass show it
 --   inputs-pass        those of a filter whose set has a point, at a degree up to n and a side up to 1, pass
 --   certify-compares   where they pass, only the ranks are left to compare
@@ -8,6 +9,7 @@ use mathlib.Core.Path.{_≡_, refl, _∙_}
 use mathlib.Core.Bool.{false}
 use mathlib.Core.List.{List, _++_}
 use Prim.Native.Nat.{ℕ, _≤_}
+use native.Mathlib.Omega.{arith}
 use lib.ListN.{length}
 use borrow.Author.Tests.{eqb-true, eq-eqb, leb-true, le-leb}
 use Rattle.refusal.specs.Outcome.{accepted, checked}
@@ -18,7 +20,7 @@ use Rattle.cube.specs.NumberLists.{isEmpty}
 use Rattle.cube.specs.Mask.{points}
 use Rattle.filter.specs.Filter.{Filter}
 use Rattle.filter.specs.Checks.{degreeUpTo, sideUpTo1, filterMasks}
-use Rattle.filter.proofs.Filters.{a-filter, some-point, passes}
+use Rattle.filter.proofs.Filters.{a-filter, few-taps, some-point, passes}
 use Rattle.immunity.specs.Judgement.{EqualRanks, differs}
 use Rattle.immunity.specs.Certificate.{certificate}
 use Rattle.certify.specs.Certify.{certifyInputs, ranksEqual, certifyOutcome, CertifyAccepts}
@@ -31,6 +33,10 @@ pub record Passes (n : ℕ) (s f : List ℕ) (side d m l : ℕ) : Type 0 where
   pub certificate-long : l ≡ 4096
   pub low : d ≤ n
   pub up : side ≤ 1
+
+-- the degree is then at most 9
+pub few-degrees : {n side d m l : ℕ} {s f : List ℕ} → Passes n s f side d m l → d ≤ 9
+few-degrees p = omega (arith, p .low, few-taps _ _ _ (p .filter))
 
 module _ (n : ℕ) (s f : List ℕ) (side d : ℕ) where
   -- checks that pass show it

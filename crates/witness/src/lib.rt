@@ -98,13 +98,14 @@ fn write_witness(
 {
     clear_bytes(witness);
     let mut pivots = [0u16; COLUMNS];
-    let columns = column_count(order, n, d as u16);
+    let most = d as u16;
+    let columns = column_count(order, n, most);
     let t = eliminate_with(ws, &mut pivots, part, columns);
     let kept = t.kept;
     if kept < COLUMNS {
         if kept < keep_new(ws, &mut pivots, set, kept, columns) {
             let x = solve_last(ws, &pivots, kept);
-            mark_columns(order, n, d as u16, &x, witness);
+            mark_columns(order, n, most, &x, witness);
         }
     }
 }

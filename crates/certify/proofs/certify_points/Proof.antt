@@ -7,7 +7,7 @@ use lib.ListN.{length, length-replicate}
 use Rattle.packed.specs.Packed.{unpacked, zeros}
 use Rattle.packed.proofs.Rows.{length-rows}
 use Rattle.filter.proofs.Filters.{few-taps}
-use Rattle.certify.proofs.Compared.{Passes, certify-passed}
+use Rattle.certify.proofs.Compared.{Passes, few-degrees, certify-passed}
 use Rattle.certify.proofs.Certifying.{Found, found, ranks-differ, accepts}
 use Rattle.certify.proofs.certify_points.Statement.{statement}
 use Rattle.certify.proofs.certify_points.Tie as tie
@@ -24,7 +24,7 @@ part-mask-requires : tie.Need-part-mask-requires
 part-mask-requires c κs = let h = shown (c .before .before .before .before .before) .filter in (h .set-long, h .table-long)
 
 cast-column-count : tie.Need-cast-column-count
-cast-column-count c = let s = c .before .before .before .before .before .before in omega (arith, shown s .low, small s)
+cast-column-count c = omega (arith, few-degrees (shown (c .before .before .before .before .before .before)))
 
 column-count-requires : tie.Need-column-count-requires
 column-count-requires c κs = let s = c .before .before .before .before .before .before in (s .pre .1, small s)

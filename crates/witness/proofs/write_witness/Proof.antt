@@ -113,7 +113,6 @@ write-witness-spec =
     keep-new-requires
     (λ c. search needs)
     solve-last-requires
-    (λ c. search needs)
     mark-columns-requires
     (λ c. search needs)
     (λ c. search needs)

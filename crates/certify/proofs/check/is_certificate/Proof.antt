@@ -1,11 +1,10 @@
 use borrow.Author.Needs.{needs}
 use mathlib.Core.Path.{_≡_, _∙_}
-use Prim.Native.Nat.{_≤_}
 use native.Mathlib.Omega.{arith}
 use lib.ListN.{length}
 use Rattle.order.proofs.BuiltIn.{graded-is-graded}
 use Rattle.filter.proofs.Filters.{few-taps}
-use Rattle.certify.proofs.Compared.{Passes}
+use Rattle.certify.proofs.Compared.{Passes, few-degrees}
 use Rattle.certify.proofs.Checked.{check-shown, rows-checked}
 use Rattle.certify.proofs.check.is_certificate.Statement.{statement}
 use Rattle.certify.proofs.check.is_certificate.Tie as tie
@@ -21,15 +20,11 @@ long-part c = search needs
 part-mask-requires : tie.Need-part-mask-requires
 part-mask-requires c κs = let p = shown (c .before .before .before) .filter in (p .set-long, p .table-long)
 
--- at most nine taps
-small : (c : tie.Start) → c .args .n ≤ 9
-small c = few-taps _ _ _ (shown c .filter)
-
 cast-columns-row : tie.Need-cast-columns-row
-cast-columns-row c = let s = c .before .before .before .before .before .before in omega (arith, shown s .low, small s)
+cast-columns-row c = omega (arith, few-degrees (shown (c .before .before .before .before .before .before)))
 
 columns-row-requires : tie.Need-columns-row-requires
-columns-row-requires c κs = small (c .before .before .before .before .before .before)
+columns-row-requires c κs = let s = c .before .before .before .before .before .before in few-taps (s .args .n) (s .args .set .now) (s .args .table .now) (shown s .filter)
 
 rows-right-requires : tie.Need-rows-right-requires
 rows-right-requires c κs =
