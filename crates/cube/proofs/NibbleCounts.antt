@@ -1,6 +1,6 @@
 -- The ones of a number of 16 bits, counted in its nibbles.
 --   pairSums q x         in each nibble of x the sum of its two pairs, where the mask q has the low pair of each
---   sums-le              it is at most twice the mask
+--   pair-sums-le         it is at most twice the mask
 --   nibbleCounts p q u   in each nibble the count of the ones of that of u, where the mask p has the low bit of each pair
 --   counts-bytes         the ones of two bytes are counted apart
 --   weight-counted       the counts of the four nibbles add up to the weight
@@ -24,9 +24,9 @@ unfoldable pub pairSums : ℕ → ℕ → ℕ
 pairSums q x = bitAnd x q + bitAnd (x / 2 ^ 2) q
 
 -- it is at most twice the mask
-pub sums-le : (q x : ℕ) → pairSums q x ≤ 2 * q
+pub pair-sums-le : (q x : ℕ) → pairSums q x ≤ 2 * q
 unfolding pairSums
-sums-le q x = omega (arith, and-le-r x q, and-le-r (x / 2 ^ 2) q)
+pair-sums-le q x = omega (arith, and-le-r x q, and-le-r (x / 2 ^ 2) q)
 
 -- the count of the ones of each nibble: of each pair first
 unfoldable pub nibbleCounts : ℕ → ℕ → ℕ → ℕ

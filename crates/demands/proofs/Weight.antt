@@ -49,19 +49,19 @@ module _ (n u : ℕ) (t : Taps n) (l : u < size n) where
   weighs k d = sym (d .weighs) ∙ ap weight (sym (eqb-true u (d .top) (sym (chosen-is (d .top) (d .inside)) ∙ d .chosen)))
 
   -- so that is what Degree answers
-  of-one : (r : DegreeAnswer) → outcomeOf r ≡ degreeOutcome n alone → r ≡ Accepted (weight u)
-  of-one (Refused x) e = absurd (not-both (e ∙ accepts .1))
-  of-one (Accepted k) e = ap Accepted (weighs k (degree-has n alone k (sym e)))
+  degree-of-one : (r : DegreeAnswer) → outcomeOf r ≡ degreeOutcome n alone → r ≡ Accepted (weight u)
+  degree-of-one (Refused x) e = absurd (not-both (e ∙ accepts .1))
+  degree-of-one (Accepted k) e = ap Accepted (weighs k (degree-has n alone k (sym e)))
 
 -- what Degree answers for any polynomial is its degree, at most n
-of-any : (n : ℕ) (b : List ℕ) (k : ℕ) → DegreeContract n b (Accepted k) → HasDegree n (member b) k × (k ≤ n)
-of-any n b k c = let d = degree-has n b k (sym (c .answers)) in (d, rw (sym (d .weighs)) (ones-le n (d .top) (d .inside)))
+degree-of-any : (n : ℕ) (b : List ℕ) (k : ℕ) → DegreeContract n b (Accepted k) → HasDegree n (member b) k × (k ≤ n)
+degree-of-any n b k c = let d = degree-has n b k (sym (c .answers)) in (d, rw (sym (d .weighs)) (ones-le n (d .top) (d .inside)))
 
 -- all of it
 pub weight-words : WeightWords
 weight-words = record {
-  counts = λ k u l. weight-bits k u l ∙ sym (select-count k _);
+  counts-ones = λ k u l. weight-bits k u l ∙ sym (select-count k _);
   at-most = ones-le;
-  of-one = λ n u r t l c. of-one n u t l r (c .answers);
-  of-any = of-any;
+  degree-of-one = λ n u r t l c. degree-of-one n u t l r (c .answers);
+  degree-of-any = degree-of-any;
 }

@@ -17,10 +17,10 @@ use Rattle.polynomial.specs.declared.degree.DegreeAnswer.the-variants.{Accepted
 -- what is promised
 pub record WeightWords : Type 0 where
   -- the weight of a number of k bits is how many of them are ones
-  pub counts : (k u : ℕ) → u < 2 ^ k → weight u ≡ length (select (λ i. eqb (u / 2 ^ i % 2) 1) (below k))
+  pub counts-ones : (k u : ℕ) → u < 2 ^ k → weight u ≡ length (select (λ i. eqb (u / 2 ^ i % 2) 1) (below k))
   -- the weight of an exponent of n taps is at most n: of one from 0 to 511 it is at most 9
   pub at-most : (n u : ℕ) → u < size n → weight u ≤ n
   -- Degree answers the weight of an exponent for the polynomial of that exponent alone
-  pub of-one : (n u : ℕ) (r : DegreeAnswer) → Taps n → u < size n → DegreeContract n (mask (eqb u)) r → r ≡ Accepted (weight u)
+  pub degree-of-one : (n u : ℕ) (r : DegreeAnswer) → Taps n → u < size n → DegreeContract n (mask (eqb u)) r → r ≡ Accepted (weight u)
   -- what it answers for any polynomial is the polynomial's degree, which is at most n
-  pub of-any : (n : ℕ) (b : List ℕ) (k : ℕ) → DegreeContract n b (Accepted k) → HasDegree n (member b) k × (k ≤ n)
+  pub degree-of-any : (n : ℕ) (b : List ℕ) (k : ℕ) → DegreeContract n b (Accepted k) → HasDegree n (member b) k × (k ≤ n)
