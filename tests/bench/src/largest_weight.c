@@ -25,12 +25,12 @@ static inline uint32_t largest(const uint8_t *coefficients, uint16_t (*ones)(uin
     return most;
 }
 
-// By these steps.
+// The same by the steps of the proved weight.
 uint32_t c_largest_weight(const uint8_t *coefficients) {
     return largest(coefficients, weight);
 }
 
-// By the compiler's count.
+// The same by the compiler's count.
 uint32_t c_largest_count(const uint8_t *coefficients) {
     return largest(coefficients, count);
 }

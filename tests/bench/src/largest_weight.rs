@@ -14,7 +14,7 @@ fn exponents(coefficients: &[u8]) -> impl Iterator<Item = u16> {
     coefficients.iter().zip(0..).filter(|(x, _)| **x == 1).map(|(_, u)| u)
 }
 
-// The largest weight, by these steps.
+// The largest weight, by the steps of the proved weight.
 pub fn by_steps(coefficients: &[u8]) -> u32 {
     exponents(coefficients).map(weight).fold(0, u16::max).into()
 }

@@ -1,15 +1,15 @@
-// The weight of each of the 512 exponents of nine taps, as the operations of the static library use it, compared with
-// the independent implementation. Degree of an exponent alone answers its weight. For the others each exponent u has a
-// filter: its set has the points whose ones are ones of u, and f is 1 at all of them but at u. Of all exponents u alone
-// lies within an odd number of these points, since it lies within the point u and no other. So at degree d the row of the
-// point u is the sum of the others if u is no column, and no sum of others if it is one; and it is one exactly if its
-// weight is at most d. Check finds this by the weight of u. Rank, Judge and Certify find it by the place of u in the
-// order and by the number of columns, which the weights of all exponents make.
+// The weight of each of the 512 exponents of nine taps, as the columns of the static library show it, compared with the
+// independent implementation; what Degree answers for each exponent alone is compared in normal_form.rs. Each exponent u
+// has a filter: its set has the points whose ones are ones of u, and f is 1 at all of them but at u. Of these points u
+// lies within the point u alone, and every other exponent within an even number. So at degree d the row of the point u is
+// the sum of the others if u is no column, and no sum of others if it is one; and it is one exactly if its weight is at
+// most d. Check finds this by the weight of u. Rank, Judge and Certify find it by the place of u in the order and by the
+// number of columns, which the weights of all exponents make.
 use independent::certificate::turn;
 use independent::check::check;
 use independent::filter::Filter;
 use independent::judgement::{Judgement, certify, judge};
-use independent::normal_form::{degree, weight};
+use independent::normal_form::weight;
 use independent::random::Random;
 use independent::rank::{Ranking, points_of, rank};
 use independent::samples::mask_of;
@@ -33,15 +33,6 @@ fn filters() -> impl Iterator<Item = (usize, [Vec<u8>; 2])> {
 fn agreed<A: PartialEq>(asked: Arguments, [proved, plain]: [A; 2]) -> A {
     assert!(proved == plain, "the library and the independent implementation differ: {asked}");
     proved
-}
-
-#[test]
-fn degree_answers_it_for_each_exponent_alone() {
-    for u in 0..1 << N {
-        let monomial = mask_of(N, |v| v == u);
-        let both = [library::degree, degree].map(|degree| degree(&monomial, N));
-        assert_eq!(both, [Ok(weight(u) as u32); 2], "the exponent {u}");
-    }
 }
 
 #[test]
