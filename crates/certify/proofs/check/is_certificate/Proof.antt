@@ -21,7 +21,7 @@ part-mask-requires : tie.Need-part-mask-requires
 part-mask-requires c κs = let p = shown (c .before .before .before) .filter in (p .set-long, p .table-long)
 
 cast-columns-row : tie.Need-cast-columns-row
-cast-columns-row c = omega (arith, few-degrees (shown (c .before .before .before .before .before .before)))
+cast-columns-row c = let p = shown (c .before .before .before .before .before .before) in omega (arith, few-degrees p, few-taps _ _ _ (p .filter))
 
 columns-row-requires : tie.Need-columns-row-requires
 columns-row-requires c κs = let s = c .before .before .before .before .before .before in few-taps (s .args .n) (s .args .set .now) (s .args .table .now) (shown s .filter)
