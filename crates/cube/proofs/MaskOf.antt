@@ -1,6 +1,7 @@
 -- The mask of a test.
 --   length-mask        it has 512 bytes
 --   mask-well-formed   it obeys the 0/1/0 rule where only points of n taps pass
+--   with-ones-snoc     one number more is marked
 --   with-ones-mask     zeros that are marked at numbers are the mask of the numbers
 --   select-same        tests that agree on a list keep the same of it
 --   points-mask        its points are the numbers below 512 that pass
@@ -8,7 +9,7 @@
 use mathlib.Core.Path.{_≡_, refl, sym, ap, _∙_}
 use mathlib.Core.Logic.{_⊎_, inl, inr}
 use mathlib.Core.Bool.{Bool, true, false, _||_}
-use mathlib.Core.List.{List, [], _∷_, List·Memᴰ, List·Memᴰ·head, List·Memᴰ·tail}
+use mathlib.Core.List.{List, [], _∷_, _++_, List·Memᴰ, List·Memᴰ·head, List·Memᴰ·tail}
 use Prim.Native.Nat.{ℕ, _≤_, _<_}
 use native.Mathlib.Omega.{arith}
 use native.Mathlib.Decide.{decLt}
@@ -71,6 +72,12 @@ length-with-ones : (us b : List ℕ) → length (withOnes us b) ≡ length b
 unfolding withOnes
 length-with-ones [] b = refl
 length-with-ones (u ∷ us) b = length-with-ones us (set b u 1) ∙ length-set b u 1
+
+-- one number more is marked
+pub with-ones-snoc : (us : List ℕ) (u : ℕ) (b : List ℕ) → withOnes (us ++ (u ∷ [])) b ≡ set (withOnes us b) u 1
+unfolding withOnes
+with-ones-snoc [] u b = refl
+with-ones-snoc (v ∷ us) u b = with-ones-snoc us u (set b v 1)
 
 -- zeros that are marked at numbers are the mask of the numbers
 pub with-ones-mask : (us : List ℕ) → withOnes us (replicate 512 0) ≡ mask (lists us)

@@ -7,6 +7,7 @@
 --   same-sums            kept rows and the rows of all points have the same sums
 --   sum-reduced          a row is a sum of the rows of the points exactly when nothing of it is left
 --   points-chosen        the kept points are chosen from the points
+--   points-among         each of them is one of the points
 --   points-rising        the kept points rise if the points do
 --   points-independent   the rows of the kept points are independent
 --   points-sums          the row of each point is a sum of the rows of the kept points
@@ -26,7 +27,7 @@ use Rattle.gf2.specs.Vector.{Row, Zero, Each, Choice, chosen, SumOf}
 use Rattle.gf2.specs.Rank.{Independent, Rank}
 use Rattle.gf2.specs.Elimination.{isZero, Echelon, reduce, keepUnless, Elimination, nothing, takePoint, takePoints, eliminate}
 use Rattle.gf2.specs.Points.{Rising}
-use Rattle.gf2.proofs.Each.{each-map, each-chosen, each-member}
+use Rattle.gf2.proofs.Each.{each-map, each-chosen, each-member, chosen-among}
 use Rattle.gf2.proofs.Chosen.{map-chosen}
 use Rattle.gf2.proofs.Sums.{sum-trans}
 use Rattle.gf2.proofs.Rank.{rank-of-basis, equal-point-ranks}
@@ -95,6 +96,10 @@ module _ (row : ℕ → Row) (ps : List ℕ) where
   -- the kept points are chosen from the points
   pub points-chosen : (c : Choice) × (length c ≡ length ps) × (chosen c ps ≡ eliminate row ps .points)
   points-chosen = let t = taken row ps in (t .choice, t .places, t .chose)
+
+  -- each of them is one of the points
+  pub points-among : (a : ℕ) → List·Memᴰ a (eliminate row ps .points) → List·Memᴰ a ps
+  points-among a m = let (c, l, e) = points-chosen in each-member (λ q. List·Memᴰ q ps) (chosen-among c ps) (subst (List·Memᴰ a) (sym e) m)
 
   -- the kept points rise if the points do
   pub points-rising : Rising ps → Rising (eliminate row ps .points)

@@ -13,6 +13,7 @@ pub mod Paired
 pub mod Points
 pub mod Eliminate
 pub mod Kept
+pub mod Again
 pub mod Among
 pub mod Combinations
 pub mod BackSubstitution
@@ -23,4 +24,5 @@ pub mod Padded
 pub mod Steps
 pub mod BothRows
 pub mod Prefix
+pub mod PointsBelow
 pub mod Common

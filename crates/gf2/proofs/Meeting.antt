@@ -14,9 +14,9 @@ use Rattle.gf2.specs.Elimination.{pivot, isZero, count, Echelon, Reduced
 use Rattle.gf2.specs.Points.{Rising}
 use Rattle.gf2.specs.Meeting.{Meets, Step, smaller, KeptPoint}
 use Rattle.gf2.proofs.Bits.{not-one}
-use Rattle.gf2.proofs.Each.{each-member, chosen-among}
+use Rattle.gf2.proofs.Each.{each-member}
 use Rattle.gf2.proofs.Reducing.{is-zero}
-use Rattle.gf2.proofs.Kept.{points-chosen, point-kept}
+use Rattle.gf2.proofs.Kept.{points-among, point-kept}
 use Rattle.gf2.proofs.Columns.{zero-before-pivot}
 
 -- a row is reduced as the kept rows are met
@@ -67,11 +67,8 @@ split-at a (p ∷ ps) r m = go (List·Memᴰ·cases-cons m) (split-at a ps (r .1
 
 -- a point is kept just if its row is no sum of rows of smaller points
 pub kept-of : (at : ℕ → Row) (ps : List ℕ) → Rising ps → (a : ℕ) → List·Memᴰ a (eliminate at ps .points) ↔ KeptPoint at ps a
-kept-of at ps r a = (λ m. (among m, says (among m) .0 m), λ h. says (h .0) .1 (h .1))
+kept-of at ps r a = (λ m. (points-among at ps a m, says (points-among at ps a m) .0 m), λ h. says (h .0) .1 (h .1))
   where
-    among : List·Memᴰ a (eliminate at ps .points) → List·Memᴰ a ps
-    among m = let (c, _, e) = points-chosen at ps in each-member (λ q. List·Memᴰ q ps) (chosen-among c ps) (subst (List·Memᴰ a) (sym e) m)
-
     says : List·Memᴰ a ps → List·Memᴰ a (eliminate at ps .points) ↔ (¬ SumOf (map at (smaller a ps)) (at a))
     says m =
         let (after, e) = split-at a ps r m in

@@ -1,11 +1,13 @@
 -- Elimination at fewer columns: what is kept and left of rows that are cut.
 --   length-cut     a row that is cut has its length
 --   cut-all        a row cut past its end is as it was
+--   cut-zero       a zero row that is cut is zero
 --   cut-below      a row with its pivot below c is not zero after it was cut
 --   cut-above      a row with its pivot from c on is
 --   cut-met        what a row meets in a pivot before the cut
 --   kept-snoc      one row more among those that are cut
 --   kept-cut       one row more, which is kept or not
+--   length-left    what is left of a row has its length
 --   left-cut       what is left of a cut row is what is left of the row, cut
 --   length-kept    how many rows are kept of cut rows
 --   pivots-taken   the pivots of the first rows
@@ -56,7 +58,7 @@ entry-cut (suc c) (x ∷ v) zero l = refl
 entry-cut (suc c) (x ∷ v) (suc i) l = entry-cut c v i (omega arith)
 
 -- a zero row that is cut is zero
-cut-zero : (c : ℕ) (v : Row) → isZero v ≡ true → isZero (cut c v) ≡ true
+pub cut-zero : (c : ℕ) (v : Row) → isZero v ≡ true → isZero (cut c v) ≡ true
 unfolding cut isZero
 cut-zero c [] e = refl
 cut-zero zero (true ∷ v) e = cc
@@ -115,6 +117,13 @@ length-sum-if : (b : Bool) (v w : Row) → length w ≡ length v → length (add
 unfolding addIf
 length-sum-if true v w l = length-sum v w l
 length-sum-if false v w l = refl
+
+-- what is left of a row has its length
+pub length-left : (m : ℕ) (kept : List Row) (v : Row) → Each (λ r. length r ≡ m) kept → length v ≡ m → length (reduce kept v .left) ≡ m
+unfolding reduce
+length-left m [] v f l = l
+length-left m (r ∷ kept) v f l =
+    length-left m kept (addIf (entry v (pivot r)) v r) (f .1) (length-sum-if (entry v (pivot r)) v r (f .0 ∙ sym l) ∙ l)
 
 module _ (c : ℕ) where
   -- a row that was added or not, and cut

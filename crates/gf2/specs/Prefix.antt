@@ -2,16 +2,17 @@
 --   consUnless b x xs           one more at the front of a list, or none
 --   keptTo c rs                 the rows cut to c columns, without those of which nothing is left
 --   countTo c ps                how many numbers are below c
+--   pointsBelow c ps qs         those of the points qs whose pivots, at the same places of ps, are below c
 --   sumTo c xs                  the sum of the first c numbers
 --   AtMost m xs                 each number is at most m
 --   Tallies k row t t′ xs xs′   a row of t is reduced by the first k rows, and the tally xs counts the additions by pivot
 use mathlib.Core.Path.{_≡_}
 use mathlib.Core.Bool.{Bool, true, false}
-use mathlib.Core.List.{List, [], _∷_}
+use mathlib.Core.List.{List, [], _∷_, map}
 use Prim.Native.Nat.{ℕ, zero, suc, _+_, _≤_}
 use lib.Dec.{ltb}
 use lib.ListN.{getD, set, take}
-use Rattle.gf2.specs.Vector.{Row, digit}
+use Rattle.gf2.specs.Vector.{Row, chosen, digit}
 use Rattle.gf2.specs.Elimination.{isZero, count, reduce}
 use Rattle.gf2.specs.Cut.{cut}
 use Rattle.gf2.specs.Steps.{rowOf}
@@ -31,6 +32,10 @@ keptTo c (r ∷ rs) = consUnless (isZero (cut c r)) (cut c r) (keptTo c rs)
 unfoldable pub countTo : ℕ → List ℕ → ℕ
 countTo c [] = 0
 countTo c (p ∷ ps) = digit (ltb p c) + countTo c ps
+
+-- the points whose pivots are below c
+abbrev pub pointsBelow : ℕ → List ℕ → List ℕ → List ℕ
+pointsBelow c ps qs = chosen (map (λ p. ltb p c) ps) qs
 
 -- the sum of the first c numbers
 unfoldable pub sumTo : ℕ → List ℕ → ℕ

@@ -4,6 +4,7 @@
 --   every p cs        each refusal of a list passes a test, as a test
 --   checked-append    the outcome after two lists of checks
 --   from-append       the verdict after two lists of checks
+--   from-same         the verdict after checks, where the one before them has another name
 --   refused-stays     a refusal stays, whatever checks follow
 --   checked-verdict   the outcome after checks is that after their verdict
 --   verdict-refuses   checks that refuse
@@ -14,7 +15,7 @@
 --   refused-either    one that refuses after checks: a check is broken, or they pass and what follows refuses
 --   refused-among     the refusal of a broken check is one of the list's
 --   refused-other     so it is not by a number that none of them has
-use mathlib.Core.Path.{_≡_, refl, sym, _∙_}
+use mathlib.Core.Path.{_≡_, refl, sym, ap, _∙_}
 use mathlib.Core.Logic.{_↔_, _⊎_, inl, inr}
 use mathlib.Core.Bool.{Bool, true, false, _&&_, and-eq-true-iff, false≢true, not}
 use mathlib.Core.List.{List, [], _∷_, _++_}
@@ -58,6 +59,10 @@ checked-append (false otherwise r ∷ cs) ds o = refl
 pub from-append : (v : Verdict) (cs ds : List Check) → from v (cs ++ ds) ≡ from (from v cs) ds
 from-append v [] ds = refl
 from-append v (t otherwise r ∷ cs) ds = from-append (alsoOf v t r) cs ds
+
+-- the verdict before the checks has another name
+pub from-same : (cs : List Check) {u v w : Verdict} → v ≡ w → u ≡ from v cs → u ≡ from w cs
+from-same cs e h = h ∙ ap (λ x. from x cs) e
 
 -- a refusal stays
 pub refused-stays : (x : Refusal) (cs : List Check) → from (Refused x) cs ≡ Refused x
