@@ -22,10 +22,10 @@ static void print_degree(uint32_t degree) {
 /* Prints the mark; below it the degree and the side of the filter; and below these side 1's own degree and side 0's. */
 static int judge(const uint8_t *set, const uint8_t *table, size_t n) {
     static uint64_t workspace[EKTHAVRUL_WORKSPACE];
-    uint8_t one[EKTHAVRUL_POINTS], zero[EKTHAVRUL_POINTS];
+    uint8_t one[EKTHAVRUL_POINTS], zero[EKTHAVRUL_POINTS], kept[EKTHAVRUL_POINTS];
     uint32_t report[EKTHAVRUL_REPORT];
     uint8_t status = ekthavrul_judge(set, EKTHAVRUL_POINTS, table, EKTHAVRUL_POINTS, n, workspace, EKTHAVRUL_WORKSPACE,
-                                     one, sizeof one, zero, sizeof zero, report);
+                                     one, sizeof one, zero, sizeof zero, kept, sizeof kept, report);
     if (status != EKTHAVRUL_ACCEPTED)
         return refused(status);
     printf("mark %" PRIu32 "\n", report[EKTHAVRUL_MARK_AT]);

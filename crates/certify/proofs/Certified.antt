@@ -1,35 +1,36 @@
 -- What Certify leaves in the workspace is the certificate of the definition.
---   combined-count        the part's kept rows are as many as its rank
+--   outside-left          something is left of the row of a point outside the part just if it is no sum of rows of the part
 --   certified-row         the sum for a point outside the part is that of the definition, continued by zeros
 --   written-certificate   so the numbers written are the certificate
 use mathlib.Core.Path.{_≡_, refl, sym, ap, ap₂, _∙_}
+use mathlib.Core.Logic.{_↔_}
 use mathlib.Core.Bool.{Bool, true, false}
 use mathlib.Core.List.{List, [], map, List·Memᴰ}
 use Prim.Native.Nat.{ℕ, _+_, _*_, _/_, _%_, _≤_, _<_}
 use native.Mathlib.Omega.{arith}
-use lib.ListN.{length, take, drop, length-map}
-use lib.Seq.{length-take-le}
+use lib.ListN.{length, take, drop}
 use Rattle.cube.specs.NumberLists.{below, Inside}
 use Rattle.cube.specs.Cube.{size}
 use Rattle.cube.specs.Mask.{points}
 use Rattle.cube.proofs.Masks.{member-from}
 use Rattle.order.specs.Order.{Graded, columns}
-use Rattle.gf2.specs.Vector.{Row, add, total, chosen}
-use Rattle.gf2.specs.Elimination.{Reduced, reduce, Elimination}
+use Rattle.gf2.specs.Vector.{Row, SumOf, add, total, chosen}
+use Rattle.gf2.specs.Elimination.{isZero, Reduced, reduce, Elimination}
 use Rattle.gf2.specs.Cut.{zeroRow, cut, padded}
 use Rattle.gf2.specs.Steps.{rowOf}
 use Rattle.gf2.proofs.Each.{member-each, map-each}
-use Rattle.gf2.proofs.Padded.{zero-row, total-padded, reduce-padded, kept-fits}
+use Rattle.gf2.proofs.Kept.{sum-reduced}
+use Rattle.gf2.proofs.Padded.{zero-row, total-padded, zero-padded, reduce-padded, reduce-fits, kept-fits}
 use Rattle.packed.specs.Packed.{number}
 use Rattle.packed.proofs.Packing.{number-padded}
 use Rattle.filter.specs.Part.{part}
 use Rattle.filter.specs.Outside.{isOutside}
 use Rattle.filter.proofs.Outside.{outside-says}
-use Rattle.point_rows.specs.Rows.{row}
+use Rattle.point_rows.specs.Rows.{row, rows}
 use Rattle.point_rows.specs.Workspace.{exponents, RowsFrom, stored}
 use Rattle.point_rows.proofs.PointRow.{short-row}
 use Rattle.point_rows.proofs.Stored.{stored-row}
-use Rattle.matrix.specs.Matrix.{eliminated, rankOf}
+use Rattle.matrix.specs.Matrix.{eliminated}
 use Rattle.matrix.specs.Combination.{Combines}
 use Rattle.matrix.proofs.Stored.{stored-elimination}
 use Rattle.immunity.specs.Certificate.{sumOf, rowIf, sumIf, numberAt, certificate}
@@ -41,23 +42,35 @@ module _ {o : List ℕ} (g : Graded o) (n d : ℕ) (most : n ≤ 9) (low : d ≤
     combined-kept : take k t′ ≡ map (padded 512) (eliminated o n d qs .kept)
     combined-kept = sym (h .kept) ∙ ap (λ (x : Elimination). x .kept) (stored-elimination g n d most low t there qs inside)
 
-    -- they are as many as the rank
-    pub combined-count : k ≤ length t′ → k ≡ rankOf o n d qs
-    combined-count l = sym (length-take-le k t′ l) ∙ ap length combined-kept ∙ length-map (eliminated o n d qs .kept) (padded 512)
+    -- the row of a point outside the part is reduced as in the definition, continued by zeros
+    outside-reduced : (a : ℕ) → a < size n → ¬ List·Memᴰ a qs → let m : Reduced = reduce (eliminated o n d qs .kept) (row o n d a) in
+        reduce (take k t′) (stored t′ (length (columns o n d)) a) ≡ record { left = padded 512 (m .left); added = m .added }
+    unfolding eliminated
+    outside-reduced a small outside =
+        ap₂ reduce combined-kept (ap (cut (length (columns o n d))) (h .stays a outside) ∙ stored-row g n d most low t there a small)
+        ∙ reduce-padded 512 (eliminated o n d qs .kept) (row o n d a) (kept-fits 512 (row o n d) (short-row g n d) qs) (short-row g n d a)
+
+    -- something is left of it just if it is no sum of rows of the part
+    pub outside-left : (a : ℕ) → a < size n → ¬ List·Memᴰ a qs
+        → (isZero (reduce (take k t′) (stored t′ (length (columns o n d)) a) .left) ≡ true) ↔ SumOf (rows o n d qs) (row o n d a)
+    unfolding eliminated
+    outside-left a small outside =
+        let m : Reduced = reduce (eliminated o n d qs .kept) (row o n d a) in
+        let short : length (m .left) ≤ 512 = reduce-fits 512 (eliminated o n d qs .kept) (row o n d a) (kept-fits 512 (row o n d) (short-row g n d) qs) (short-row g n d a) in
+        let same : isZero (reduce (take k t′) (stored t′ (length (columns o n d)) a) .left) ≡ isZero (m .left) =
+        ap (λ (r : Reduced). isZero (r .left)) (outside-reduced a small outside) ∙ zero-padded 512 (m .left) short in
+        let sum = sum-reduced (row o n d) qs (row o n d a) in
+        (λ e. sum .0 (sym same ∙ e), λ s. same ∙ sum .1 s)
 
     -- the sum for a point outside the part is that of the definition, continued by zeros
     pub certified-row : (a : ℕ) → a < size n → ¬ List·Memᴰ a qs → sumAt t′ (length (columns o n d)) k ps a ≡ padded 512 (sumOf o n d qs a)
     unfolding sumAt sumOf eliminated add
     certified-row a small outside =
-        let c : ℕ = length (columns o n d) in
         let e : Elimination = eliminated o n d qs in
         let m : Reduced = reduce (e .kept) (row o n d a) in
-        let place : stored t′ c a ≡ padded 512 (row o n d a) = ap (cut c) (h .stays a outside) ∙ stored-row g n d most low t there a small in
-        let same : reduce (take k t′) (stored t′ c a) ≡ record { left = padded 512 (m .left); added = m .added } =
-        ap₂ reduce combined-kept place ∙ reduce-padded 512 (e .kept) (row o n d a) (kept-fits 512 (row o n d) (short-row g n d) qs) (short-row g n d a) in
-        let rows : map (rowOf t′) (take k ps) ≡ map (padded 512) (e .combinations) =
+        let combined : map (rowOf t′) (take k ps) ≡ map (padded 512) (e .combinations) =
         h .combinations ∙ ap (λ (x : Elimination). map (padded 512) (x .combinations)) (stored-elimination g n d most low t there qs inside) in
-        ap₂ (λ (r : Reduced) x. add zeroRow (total (chosen (r .added) x))) same rows
+        ap₂ (λ (r : Reduced) x. add zeroRow (total (chosen (r .added) x))) (outside-reduced a small outside) combined
         ∙ ap (λ v. add v (total (chosen (m .added) (map (padded 512) (e .combinations))))) zero-row
         ∙ total-padded 512 [] (m .added) (e .combinations)
 

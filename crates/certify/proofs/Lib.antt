@@ -6,4 +6,5 @@ pub mod Certifying
 pub mod Checked
 pub mod CheckedRows
 pub mod Compared
+pub mod KeptSums
 pub mod SumsOutside

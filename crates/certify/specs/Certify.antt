@@ -2,6 +2,7 @@
 --   certifyInputs s f n side d m l    the checks of the inputs, lent the set s, the table f, a workspace of m and a certificate of l numbers
 --   ranksEqual o s f n side d         12: at degree d the ranks of the set and of the side's part are equal
 --   certifyOutcome o s f n ..         what Certify writes in the order o: the first refusal, or the certificate
+--   PartKept o n d b m                the mask m that Certify goes by marks the kept points of the mask b, that of a part, at degree d
 --   zeroIf b ws                       a buffer that is zero, or as it was
 --   clearedUnless o ws                the workspace as Certify leaves it: zero after acceptance and after 12, else as it was
 --   outcomeOf r c                     what an answer, with the certificate at exit, states
@@ -16,7 +17,9 @@ use lib.ListN.{length}
 use Rattle.refusal.specs.Refusal.{numberOf}
 use Rattle.refusal.specs.Outcome.{Outcome, refused, accepted, Check, _otherwise_, checked, leftBy}
 use Rattle.refusal.specs.declared.Refusal.the-variants.{RanksDiffer}
+use Rattle.cube.specs.Mask.{points}
 use Rattle.packed.specs.Packed.{zeros}
+use Rattle.matrix.specs.Kept.{keptMask}
 use Rattle.filter.specs.Checks.{lengthIs, tapsOf, degreeUpTo, sideUpTo1, filterLengths, filterMasks}
 use Rattle.immunity.specs.Judgement.{differs}
 use Rattle.immunity.specs.Certificate.{certificate}
@@ -36,6 +39,10 @@ ranksEqual o s f n side d = not (differs o n s f d side) otherwise RanksDiffer �
 unfoldable pub certifyOutcome : List ℕ → List ℕ → List ℕ → ℕ → ℕ → ℕ → ℕ → ℕ → Outcome (List ℕ)
 certifyOutcome o s f n side d m l =
     checked (certifyInputs s f n side d m l ++ ranksEqual o s f n side d) (accepted (certificate o n s f side d))
+
+-- the mask marks the kept points of a part's mask
+abbrev pub PartKept : List ℕ → ℕ → ℕ → List ℕ → List ℕ → Type 0
+PartKept o n d b m = m ≡ keptMask o n d (points b)
 
 -- zero, or as it was
 abbrev pub zeroIf : Bool → List ℕ → List ℕ

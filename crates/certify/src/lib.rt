@@ -1,14 +1,21 @@
 // Certify: docs/SPECIFICATION.md, 'Certify'. For each point of the set outside a side's part, points of the part whose
 // rows sum to its row. Check, of certificates that anybody made, is check.rt.
 ghost use mathlib.Core.Path.{_≡_};
-ghost use lib.ListN.{length};
+ghost use Prim.Native.Nat.{_≤_};
+ghost use lib.ListN.{length, drop};
+ghost use Rattle.cube.specs.NumberLists.{Inside};
+ghost use Rattle.cube.specs.Cube.{size};
+ghost use Rattle.cube.specs.Mask.{points};
 ghost use Rattle.refusal.specs.Verdict.{verdict};
 ghost use Rattle.refusal.specs.declared.verdict.Verdict.the-variants.{Passed};
 ghost use Rattle.order.specs.Order.{Graded};
 ghost use Rattle.order.specs.BuiltIn.{graded};
-ghost use Rattle.certify.specs.Certify.{certifyInputs, certifyOutcome, CertifyContract};
-use crate::sums::combine_outside;
+ghost use Rattle.packed.specs.Packed.{unpacked};
+ghost use Rattle.point_rows.specs.Workspace.{exponents, RowsFrom};
+ghost use Rattle.certify.specs.Certify.{certifyInputs, certifyOutcome, CertifyContract, PartKept};
+use crate::sums::kept_sums;
 use crate::sums::write_certificate;
+use cube::POINTS;
 use filter::checks::check_degree;
 use filter::checks::check_filter_lengths;
 use filter::checks::check_filter_masks;
@@ -16,11 +23,8 @@ use filter::checks::check_length;
 use filter::checks::check_side;
 use filter::checks::check_taps;
 use filter::part::part_mask;
-use matrix::combination::eliminate_combining;
-use matrix::elimination::eliminate;
-use order::columns::column_count;
+use matrix::rank::keep_points;
 use order::graded_order;
-use packed::COLUMNS;
 use packed::WORKSPACE;
 use packed::row::clear;
 use point_rows::fill_rows;
@@ -102,18 +106,26 @@ fn certify_points(
         (now (workspace .entry)) (now (workspace .exit)) (now (certificate .entry)) (now (certificate .exit)) r ⌝ }
 {
     let part = part_mask(set, table, side);
-    let columns = column_count(order, n, d as u16);
-    let mut pivots = [0u16; COLUMNS];
-    let mut places = [0u16; COLUMNS];
     fill_rows(workspace, order, n);
-    let rank = eliminate(workspace, set, columns).kept;
-    let kept = eliminate_combining(workspace, &mut pivots, &mut places, &part, columns);
-    if kept != rank {
+    let kept = part_kept(workspace, order, &part, n, d);
+    if !kept_sums(workspace, order, set, &part, &kept, n, d) {
         clear(workspace);
         return CertifyAnswer::Refused(Refusal::RanksDiffer);
     }
-    combine_outside(workspace, &pivots, &places, kept, set, &part, columns);
     write_certificate(workspace, set, &part, certificate);
     clear(workspace);
     CertifyAnswer::Accepted
+}
+
+// The kept points of a part at degree `d` as a mask, which Rank's function fills. The first 512 rows of the workspace are
+// scratch, and the others, the rows of points, stay.
+fn part_kept(ws: &mut [u64], order: &[u16], part: &[u8], n: usize, d: usize) -> [u8; 512]
+    requires { ⌜ (length (now ws) ≡ 8192) × (length (now part) ≡ 512) × Graded (now order) × (n ≤ 9) × (d ≤ n)
+        × Inside (size n) (points (now part)) × RowsFrom (exponents (now order) n) n (unpacked (now ws)) 0 ⌝ }
+    ensures { λ r. ⌜ PartKept (now (order .entry)) n d (now (part .entry)) r ⌝ }
+    ensures { λ r. ⌜ drop 512 (unpacked (now (ws .exit))) ≡ drop 512 (unpacked (now (ws .entry))) ⌝ }
+{
+    let mut kept = [0u8; POINTS];
+    keep_points(ws, order, part, n, d, &mut kept);
+    kept
 }

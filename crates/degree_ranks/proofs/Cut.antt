@@ -1,5 +1,6 @@
--- The ranks of the rows in the places of points are those of the points, and so are the additions.
+-- The ranks of the rows in the places of points are those of the points, and so are the additions and the kept points.
 --   counts-few      no degree has more than 512 columns
+--   kept-cut        the kept points are those of the definition
 --   ranks-cut       the ranks are those of the points
 --   additions-cut   so are the additions
 --   ranks-joined    the ranks of a set and of its parts, side by side
@@ -23,6 +24,7 @@ use Rattle.gf2.specs.Prefix.{AtMost}
 use Rattle.gf2.proofs.Each.{member-each, map-each}
 use Rattle.gf2.proofs.Padded.{widened}
 use Rattle.matrix.specs.Matrix.{eliminated, rankOf}
+use Rattle.matrix.specs.Kept.{keptPoints}
 use Rattle.point_rows.specs.Workspace.{stored}
 use Rattle.matrix.proofs.Stored.{stored-elimination}
 use Rattle.filter.specs.Sides.{pair}
@@ -46,22 +48,30 @@ counts-few {o} g n d = elim (decLt d 10) [
       | no h ↦ omega (arith, up-to-here n (columnCount o n) d (omega arith), length-columns g n d)
     ]
 
-module _ {o : List ℕ} {n : ℕ} {ws s : List ℕ} (r : Ready o n ws) (m : Marks n s) {cs : List ℕ} (counted : cs ≡ columnCounts o n) where
+module _ {o : List ℕ} {n : ℕ} {ws s : List ℕ} (r : Ready o n ws) (m : Marks n s) where
   -- the elimination at a degree
-  eliminated-cut : (d : ℕ) → d ≤ n → eliminate (stored (unpacked ws) (getD cs d 0)) (points s) ≡ widened 512 (eliminated o n d (points s))
-  eliminated-cut d l =
-      let here : getD cs d 0 ≡ columnCount o n d =
-      ap (λ x. getD x d 0) counted ∙ value-at (upTo n (columnCount o n)) 10 d 0 (omega (arith, r .small)) ∙ up-to-here n (columnCount o n) d l in
-      ap (λ c. eliminate (stored (unpacked ws) c) (points s)) here
-      ∙ stored-elimination (r .ordered) n d (r .small) l (unpacked ws) (r .rows) (points s) (m .inside)
+  eliminated-at : (d : ℕ) → d ≤ n → eliminate (stored (unpacked ws) (columnCount o n d)) (points s) ≡ widened 512 (eliminated o n d (points s))
+  eliminated-at d l = stored-elimination (r .ordered) n d (r .small) l (unpacked ws) (r .rows) (points s) (m .inside)
 
-  -- the ranks are those of the points
-  pub ranks-cut : map (upTo n (rankCut (unpacked ws) (points s) cs)) (below 10) ≡ map (upTo n (λ d. rankOf o n d (points s))) (below 10)
-  ranks-cut = up-to-same n _ _ (λ d l. ap (λ (x : Elimination). length (x .kept)) (eliminated-cut d l) ∙ length-map (eliminated o n d (points s) .kept) (padded 512))
+  -- the kept points are those of the definition
+  pub kept-cut : (d : ℕ) → d ≤ n → eliminate (stored (unpacked ws) (columnCount o n d)) (points s) .points ≡ keptPoints o n d (points s)
+  kept-cut d l = ap (λ (x : Elimination). x .points) (eliminated-at d l)
 
-  -- so are the additions
-  pub additions-cut : summed (additionsCut (unpacked ws) (points s) cs) (below (n + 1)) ≡ summed (λ d. eliminated o n d (points s) .additions) (below (n + 1))
-  additions-cut = summed-same n _ _ (λ d l. ap (λ (x : Elimination). x .additions) (eliminated-cut d l))
+  module _ {cs : List ℕ} (counted : cs ≡ columnCounts o n) where
+    -- the same where the columns are counted
+    eliminated-cut : (d : ℕ) → d ≤ n → eliminate (stored (unpacked ws) (getD cs d 0)) (points s) ≡ widened 512 (eliminated o n d (points s))
+    eliminated-cut d l =
+        let here : getD cs d 0 ≡ columnCount o n d =
+        ap (λ x. getD x d 0) counted ∙ value-at (upTo n (columnCount o n)) 10 d 0 (omega (arith, r .small)) ∙ up-to-here n (columnCount o n) d l in
+        ap (λ c. eliminate (stored (unpacked ws) c) (points s)) here ∙ eliminated-at d l
+
+    -- the ranks are those of the points
+    pub ranks-cut : map (upTo n (rankCut (unpacked ws) (points s) cs)) (below 10) ≡ map (upTo n (λ d. rankOf o n d (points s))) (below 10)
+    ranks-cut = up-to-same n _ _ (λ d l. ap (λ (x : Elimination). length (x .kept)) (eliminated-cut d l) ∙ length-map (eliminated o n d (points s) .kept) (padded 512))
+
+    -- so are the additions
+    pub additions-cut : summed (additionsCut (unpacked ws) (points s) cs) (below (n + 1)) ≡ summed (λ d. eliminated o n d (points s) .additions) (below (n + 1))
+    additions-cut = summed-same n _ _ (λ d l. ap (λ (x : Elimination). x .additions) (eliminated-cut d l))
 
 -- three numbers, or all 0
 ranks-if : (b : Bool) (x y z : ℕ) → _≡_ {A = Ranks} (record { set = numberIf b x; one = numberIf b y; zero = numberIf b z }) (ranksIf b (record { set = x; one = y; zero = z }))

@@ -3,20 +3,23 @@
 ghost use mathlib.Core.Path.{_≡_};
 ghost use mathlib.Core.List.{map};
 ghost use mathlib.Core.Option.{some, Option·getD};
-ghost use Prim.Native.Nat.{ℕ, _+_, _≤_, min};
-ghost use lib.ListN.{length, getD, drop};
+ghost use Prim.Native.Nat.{ℕ, _+_, _≤_, _<_, min};
+ghost use lib.ListN.{length, getD, take, drop};
 ghost use Rattle.cube.specs.NumberLists.{below};
-ghost use Rattle.cube.specs.Mask.{points, byte};
+ghost use Rattle.cube.specs.Mask.{points as pointsOf, byte};
 ghost use Rattle.order.specs.Order.{Graded};
 ghost use Rattle.packed.specs.Packed.{unpacked};
-ghost use Rattle.gf2.specs.Prefix.{AtMost};
+ghost use Rattle.gf2.specs.Elimination.{eliminate};
+ghost use Rattle.gf2.specs.Prefix.{AtMost, pointsBelow};
+ghost use Rattle.point_rows.specs.Workspace.{stored};
+ghost use Rattle.matrix.specs.Kept.{keptPoints};
 ghost use Rattle.filter.specs.Sides.{pair, bothSides};
 ghost use Rattle.immunity.specs.First.{first};
 ghost use Rattle.immunity.specs.Mark.{twiceExceeds, markIn};
 ghost use Rattle.immunity.specs.SideDegree.{degreeOf, degreesOf};
 ghost use Rattle.immunity.specs.Judgement.{summed};
 ghost use Rattle.immunity.specs.Ranks.{noRanks, ranksIn, ranksUpTo, additionsOf, partDiffers, differ};
-ghost use Rattle.degree_ranks.specs.Cut.{upTo, columnCounts, rankCut, additionsCut};
+ghost use Rattle.degree_ranks.specs.Cut.{upTo, columnCount, columnCounts, rankCut, additionsCut};
 ghost use Rattle.degree_ranks.specs.Ready.{Ready, Marks};
 use immunity::Ranks;
 use immunity::SideDegree;
@@ -29,16 +32,19 @@ use packed::basis::sum_below;
 // The number of degrees of nine taps.
 pub const DEGREES: usize = 10;
 
-// The ranks of one mask at each degree, and the additions of the eliminations that find them.
+// The ranks of one mask at each degree, the additions of the eliminations that find them, and the number of rows kept of
+// all columns.
 struct MaskRanks {
     ranks: [u16; 10],
     additions: u32,
+    kept: usize,
 }
 
-// The ranks at each degree, and all additions.
+// The ranks at each degree, all additions, and the number of rows of the set kept of all columns.
 pub struct FoundRanks {
     pub ranks: [Ranks; 10],
     pub additions: u32,
+    pub kept: usize,
 }
 
 // The reported degree, the mark, and each side's own degree.
@@ -64,26 +70,40 @@ fn column_counts(order: &[u16], n: usize) -> [u16; 10]
 }
 
 // The ranks of the points of one mask at each degree up to `n`, and 0 past it, where `columns` has the number of columns
-// of each: one elimination finds them all. The first 512 rows of the workspace are scratch, and the others stay.
-fn mask_ranks(ws: &mut [u64], mask: &[u8], columns: [u16; 10], n: usize) -> MaskRanks
-    requires { ⌜ (length (now ws) ≡ 8192) × (length (now mask) ≡ 512) × AtMost 512 columns × (n ≤ 9) ⌝ }
-    ensures { λ r. ⌜ r .ranks ≡ map (upTo n (rankCut (unpacked (now (ws .entry))) (points (now (mask .entry))) columns)) (below 10) ⌝ }
-    ensures { λ r. ⌜ r .additions ≡ summed (additionsCut (unpacked (now (ws .entry))) (points (now (mask .entry))) columns) (below (n + 1)) ⌝ }
+// of each: one elimination finds them all. `pivots` and `points` then have the pivot and the point of each kept row: those
+// with pivots below a column are the points kept of the columns before it. The first 512 rows of the workspace are
+// scratch, and the others stay.
+fn mask_ranks(
+    ws: &mut [u64],
+    mask: &[u8],
+    columns: [u16; 10],
+    n: usize,
+    pivots: &mut [u16],
+    points: &mut [u16],
+) -> MaskRanks
+    requires { ⌜ (length (now ws) ≡ 8192) × (length (now mask) ≡ 512) × AtMost 512 columns × (n ≤ 9) × (length (now pivots) ≡ 512) × (length (now points) ≡ 512) ⌝ }
+    ensures { λ r. ⌜ r .ranks ≡ map (upTo n (rankCut (unpacked (now (ws .entry))) (pointsOf (now (mask .entry))) columns)) (below 10) ⌝ }
+    ensures { λ r. ⌜ r .additions ≡ summed (additionsCut (unpacked (now (ws .entry))) (pointsOf (now (mask .entry))) columns) (below (n + 1)) ⌝ }
     ensures { λ r. ⌜ (r .additions ≤ 1342177280) × (drop 512 (unpacked (now (ws .exit))) ≡ drop 512 (unpacked (now (ws .entry)))) ⌝ }
+    ensures { λ r. ⌜ (r .kept ≤ 512) × ((j : ℕ) → j < r .kept → getD (now (points .exit)) j 0 < 512) ⌝ }
+    ensures { λ r. ⌜ ((c : ℕ) → pointsBelow c (take (r .kept) (now (pivots .exit))) (take (r .kept) (now (points .exit))) ≡ eliminate (stored (unpacked (now (ws .entry))) c) (pointsOf (now (mask .entry))) .points) ⌝ }
 {
-    let mut pivots = [0u16; COLUMNS];
     let mut tally = [0u32; COLUMNS];
-    let kept = eliminate_tallied(ws, &mut pivots, &mut tally, mask);
+    let kept = eliminate_tallied(ws, pivots, points, &mut tally, mask);
     let mut ranks = [0u16; DEGREES];
     let mut additions: u32 = 0;
     let mut d: usize = 0;
     while d <= n {
         let count = columns[d] as usize;
-        ranks[d] = count_below(&pivots, kept, count) as u16;
+        ranks[d] = count_below(pivots, kept, count) as u16;
         additions += sum_below(&tally, count);
         d += 1;
     }
-    MaskRanks { ranks, additions }
+    MaskRanks {
+        ranks,
+        additions,
+        kept,
+    }
 }
 
 // The ranks of three masks at each degree, side by side.
@@ -107,8 +127,10 @@ fn by_degree(set: [u16; 10], one: [u16; 10], zero: [u16; 10]) -> [Ranks; 10]
     ranks
 }
 
-// The ranks of the points of three masks at each degree up to `n`, and all 0 past it; public for Judge alone. The first
-// 512 rows of the workspace are scratch, and the others, the rows of points, stay.
+// The ranks of the points of three masks at each degree up to `n`, and all 0 past it; public for Judge alone. `pivots` and
+// `points` then have the pivot and the point of each row kept of the set: those with pivots in the columns of a degree are
+// the kept points of that degree. The set is therefore taken last. The first 512 rows of the workspace are scratch, and
+// the others, the rows of points, stay.
 pub fn all_ranks(
     ws: &mut [u64],
     order: &[u16],
@@ -116,22 +138,27 @@ pub fn all_ranks(
     one: &[u8],
     zero: &[u8],
     n: usize,
+    pivots: &mut [u16],
+    points: &mut [u16],
 ) -> FoundRanks
-    requires { ⌜ Ready (now order) n (now ws) × Marks n (now set) × Marks n (now one) × Marks n (now zero) ⌝ }
-    ensures { λ r. ⌜ r .ranks ≡ map (ranksUpTo (now (order .entry)) n (points (now (set .entry))) (pair (points (now (one .entry))) (points (now (zero .entry))))) (below 10) ⌝ }
-    ensures { λ r. ⌜ r .additions ≡ summed (λ d. additionsOf (now (order .entry)) n d (points (now (set .entry))) (pair (points (now (one .entry))) (points (now (zero .entry))))) (below (n + 1)) ⌝ }
+    requires { ⌜ Ready (now order) n (now ws) × Marks n (now set) × Marks n (now one) × Marks n (now zero) × (length (now pivots) ≡ 512) × (length (now points) ≡ 512) ⌝ }
+    ensures { λ r. ⌜ r .ranks ≡ map (ranksUpTo (now (order .entry)) n (pointsOf (now (set .entry))) (pair (pointsOf (now (one .entry))) (pointsOf (now (zero .entry))))) (below 10) ⌝ }
+    ensures { λ r. ⌜ r .additions ≡ summed (λ d. additionsOf (now (order .entry)) n d (pointsOf (now (set .entry))) (pair (pointsOf (now (one .entry))) (pointsOf (now (zero .entry))))) (below (n + 1)) ⌝ }
     ensures { λ r. ⌜ drop 512 (unpacked (now (ws .exit))) ≡ drop 512 (unpacked (now (ws .entry))) ⌝ }
+    ensures { λ r. ⌜ (r .kept ≤ 512) × ((j : ℕ) → j < r .kept → getD (now (points .exit)) j 0 < 512) ⌝ }
+    ensures { λ r. ⌜ ((d : ℕ) → d ≤ n → pointsBelow (columnCount (now (order .entry)) n d) (take (r .kept) (now (pivots .exit))) (take (r .kept) (now (points .exit))) ≡ keptPoints (now (order .entry)) n d (pointsOf (now (set .entry)))) ⌝ }
 {
     let columns = column_counts(order, n);
-    let s = mask_ranks(ws, set, columns, n);
-    let p = mask_ranks(ws, one, columns, n);
-    let q = mask_ranks(ws, zero, columns, n);
+    let p = mask_ranks(ws, one, columns, n, pivots, points);
+    let q = mask_ranks(ws, zero, columns, n, pivots, points);
+    let s = mask_ranks(ws, set, columns, n, pivots, points);
     let set_ranks = s.ranks;
     let one_ranks = p.ranks;
     let zero_ranks = q.ranks;
     FoundRanks {
         ranks: by_degree(set_ranks, one_ranks, zero_ranks),
         additions: s.additions + p.additions + q.additions,
+        kept: s.kept,
     }
 }
 

@@ -84,7 +84,11 @@ demand1 = record {
   read-keeps = λ o r s s′ f f′ k h e. (h .set ∙ ap (λ x. leftBy x s (λ c. mask (lists (c .set)))) e, h .table ∙ ap (λ x. leftBy x f (λ c. mask (lists (c .table)))) e);
   write-keeps = λ o r out out′ k h e. h .output ∙ ap (λ x. leftBy x out (λ file. file ++ drop (length file) out)) e;
   convert-keeps = λ n b b′ r k h e. h .leaves ∙ ap (λ x. left x b (converted n b)) e;
-  rank-keeps = λ o ws ws′ r k h e. h .leaves ∙ ap (λ x. left x ws (zeros (length ws))) e;
-  judge-keeps = λ o ws ws′ w w′ r k h e. (h .leaves ∙ ap (λ x. left x ws (zeros (length ws))) e, h .leaves-witnesses ∙ ap (λ x. leftBy x w (λ j. j .witnesses)) e);
+  rank-keeps = λ o ws ws′ m m′ r k h e. (h .leaves ∙ ap (λ x. left x ws (zeros (length ws))) e, h .leaves-kept ∙ ap (λ x. leftBy x m (λ y. y .kept)) e);
+  judge-keeps = λ o ws ws′ w w′ m m′ r k h e. (
+    h .leaves ∙ ap (λ x. left x ws (zeros (length ws))) e,
+    h .leaves-witnesses ∙ ap (λ x. leftBy x w (λ j. j .witnesses)) e,
+    h .leaves-kept ∙ ap (λ x. leftBy x m (λ j. j .kept)) e,
+  );
   certify-keeps = certify-keeps;
 }

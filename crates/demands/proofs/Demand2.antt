@@ -26,7 +26,7 @@ use Rattle.polynomial.proofs.Converted.{convert-fits}
 use Rattle.polynomial.proofs.NormalForm.{length-converted, converted-at, converted-formed, converted-twice}
 use Rattle.point_rows.specs.Rows.{row, rows}
 use Rattle.matrix.specs.Matrix.{eliminated, rankOf}
-use Rattle.matrix.specs.declared.rank.Ranked.{Ranked}
+use Rattle.matrix.specs.Rank.{Ranking}
 use Rattle.matrix.proofs.RankOf.{rank-of, rank-accepted, additions-accepted}
 use Rattle.immunity.specs.Judgement.{Judgement, judged, setRank, partRanks}
 use Rattle.immunity.proofs.Given.{set-given, part-given}
@@ -84,8 +84,8 @@ unfolding eliminated
 few-additions n d ps = omega (arith, additions-bound (row graded n d) ps)
 
 -- so does Rank
-rank-additions : (b : List ℕ) (n d : ℕ) (r : Ranked) → RankAccepts b n d r → FewAdditions (length (points b)) (r .rank) (r .additions)
-rank-additions b n d r e = omega (arith, additions-accepted graded b n d 8192 r e .0)
+rank-additions : (b : List ℕ) (n d : ℕ) (r : Ranking) → RankAccepts b n d r → FewAdditions (length (points b)) (r .rank) (r .additions)
+rank-additions b n d r e = omega (arith, additions-accepted graded b n d 8192 512 r e .0)
 
 -- every sentence of it
 pub demand2 : Demand2
@@ -97,7 +97,7 @@ demand2 = record {
     again n b e,
     leaves n (convertLeaves n b) (again n b e) ∙ ap (converted n) (leaves n b e) ∙ converted-twice n b (formed n b e) (convert-fits n b (passed n b e)),
   );
-  rank = λ b n d r e. rank-accepted graded b n d 8192 r e graded-is-graded graded-is-graded;
+  rank = λ b n d r e. rank-accepted graded b n d 8192 512 r e graded-is-graded graded-is-graded;
   set-rank = λ n s f j e d l. subst (Rank (rows graded n d (points s))) (set-kept n s f j e d l) (rank-of graded n d (points s));
   part-rank = λ n s f j e side d m l. subst (Rank (rows graded n d (part side s f))) (part-kept n s f j e d l side m) (rank-of graded n d (part side s f));
   additions = rank-additions;

@@ -23,9 +23,9 @@ judgement-words = record {
   certify-refuses = certify-refuses;
   certify = certify-words;
   hand-over = hand-over-words;
-  rank-zeros = λ o ws ws′ a r h e. h .leaves ∙ ap (λ x. left x ws (zeros (length ws))) e;
-  judge-zeros = λ o ws ws′ w w′ a j h e. h .leaves ∙ ap (λ x. left x ws (zeros (length ws))) e;
+  rank-zeros = λ o ws ws′ m m′ a r h e. h .leaves ∙ ap (λ x. left x ws (zeros (length ws))) e;
+  judge-zeros = λ o ws ws′ w w′ m m′ a j h e. h .leaves ∙ ap (λ x. left x ws (zeros (length ws))) e;
   certify-zeros = λ o ws ws′ c c′ a x h e. h .leaves ∙ ap (λ y. clearedUnless y ws) e;
-  judge-number-alone = λ o ws ws′ w w′ a k h e. h .no-ranks ∙ ap (λ x. leftBy x (replicate 10 noRanks) (λ j. j .ranks)) e;
+  judge-number-alone = λ o ws ws′ w w′ m m′ a k h e. h .no-ranks ∙ ap (λ x. leftBy x (replicate 10 noRanks) (λ j. j .ranks)) e;
   sheet = sheet-words;
 }

@@ -146,13 +146,13 @@ pub set-mark : SetMark
 set-mark = record {
   every = words;
   unreached = ((seventeen, judged graded 5 seventeen seventeen, judge-accepts graded 5 seventeen seventeen seventeen-filter seventeen-some), below-mark);
-  answered = λ o ws ws′ w w′ a j h e.
-      let (r, is, same) = found-judged (a .finding) (a .ranks) w′ j (h .answers ∙ e) in
+  answered = λ o ws ws′ w w′ m m′ a j h e.
+      let (r, is, same) = found-judged (a .finding) (a .ranks) w′ m′ j (h .answers ∙ e) in
       (r, is, ap (λ (i : Judgement). i .mark) same, ap (λ (i : Judgement). i .degree) same);
-  report-below = λ n s f ws ws′ w w′ a r h e.
-      let is : judgeOutcome graded s f n (length ws) (length (w .one)) (length (w .zero)) ≡ accepted (judgementOf r (a .ranks) w′) = sym (ap (λ x. found x (a .ranks) w′) (sym e) ∙ h .answers) in
-      let (filter, has, same) = accepted-filter graded s f n _ _ _ _ is in
-      let x : MarkWords n s f (judgementOf r (a .ranks) w′) = rw (← same) (mark-words n s f filter has) in
+  report-below = λ n s f ws ws′ w w′ m m′ a r h e.
+      let is : judgeOutcome graded s f n (length ws) (length (w .one)) (length (w .zero)) (length m) ≡ accepted (judgementOf r (a .ranks) w′ m′) = sym (ap (λ x. found x (a .ranks) w′ m′) (sym e) ∙ h .answers) in
+      let (filter, has, same) = accepted-filter graded s f n _ _ _ _ _ is in
+      let x : MarkWords n s f (judgementOf r (a .ranks) w′ m′) = rw (← same) (mark-words n s f filter has) in
       (x .reported-below (r .degree) (r .mark) refl refl, x .first (r .mark) .0 refl .within);
   printed = λ file c j e h.
       let s : List ℕ = mask (lists (c .set)) in

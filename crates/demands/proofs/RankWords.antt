@@ -1,24 +1,23 @@
 -- The sentences on elimination and on Rank hold.
 --   rank-words   each of them
-use mathlib.Core.Path.{_≡_, refl, ap, _∙_}
+use mathlib.Core.Path.{_≡_, refl, sym, ap, _∙_}
 use mathlib.Core.Logic.{_↔_}
 use mathlib.Core.Bool.{true}
 use mathlib.Core.List.{List, [], List·Memᴰ}
 use Prim.Native.Nat.{ℕ, _≤_}
-use native.Mathlib.Decide.{decLt}
 use native.Mathlib.Omega.{arith}
 use lib.Dec.{eqb}
-use lib.ListN.{length, getD, replicate, length-map, length-replicate, getD-replicate, List·getD-eq-default}
-use borrow.Author.Tests.{eqb-true, eq-eqb, le-leb}
+use lib.ListN.{length, getD, length-map}
+use borrow.Author.Tests.{eqb-true, eq-eqb}
 use Rattle.refusal.specs.Outcome.{accepted}
-use Rattle.refusal.proofs.Verdicts.{all-passed, verdict-passes, accepted-passes}
-use Rattle.cube.specs.NumberLists.{upFrom, consIf, select}
+use Rattle.cube.specs.NumberLists.{upFrom, consIf, select, lists}
 use Rattle.cube.specs.Cube.{Taps, within}
-use Rattle.cube.specs.Mask.{wellFormed, points}
+use Rattle.cube.specs.Mask.{wellFormed, points, withOnes, mask}
 use Rattle.cube.proofs.Bits.{within-bits}
 use Rattle.cube.proofs.Taps.{taps-range}
 use Rattle.cube.proofs.Listed.{member-select}
 use Rattle.cube.proofs.Masks.{member-points, formed-says}
+use Rattle.cube.proofs.MaskOf.{with-ones-mask}
 use Rattle.order.specs.Order.{columns}
 use Rattle.order.specs.BuiltIn.{graded}
 use Rattle.order.proofs.BuiltIn.{graded-is-graded}
@@ -26,11 +25,13 @@ use Rattle.order.proofs.DegreeColumns.{member-columns}
 use Rattle.order.proofs.ColumnOrder.{columns-ordered}
 use Rattle.gf2.specs.Elimination.{Elimination, takePoints}
 use Rattle.packed.specs.Packed.{zeros}
+use Rattle.packed.proofs.Clearing.{length-zeros, zeros-at}
 use Rattle.gf2.proofs.Sums.{sum-zero, sum-of-none}
 use Rattle.gf2.proofs.Columns.{entry-map}
 use Rattle.matrix.specs.Matrix.{eliminated}
-use Rattle.matrix.specs.declared.rank.Ranked.{Ranked}
-use Rattle.matrix.specs.Rank.{ranked, rankChecks, rankOutcome}
+use Rattle.matrix.specs.Kept.{keptMask}
+use Rattle.matrix.specs.Rank.{Ranking, ranking}
+use Rattle.matrix.proofs.RankOf.{rank-accepts, passed}
 use Rattle.matrix.proofs.Rising.{points-rising}
 use Rattle.filter.specs.Part.{part}
 use Rattle.immunity.proofs.PartPoints.{part-rising}
@@ -39,14 +40,13 @@ use Rattle.demands.specs.JudgementWords.{RankWords}
 use Rattle.demands.proofs.Eliminations.{begins, step, kept-just, kept-rise, number-kept, as-many}
 use Rattle.demands.proofs.Refusals.{rank-refuses}
 
--- Rank answers as many rows as are kept, and the elimination's additions
-rank-kept : (b : List ℕ) (n d : ℕ) (r : Ranked) → RankAccepts b n d r → let e : Elimination = eliminated graded n d (points b) in
-    (r .rank ≡ length (e .kept)) × (r .rank ≡ length (e .points)) × (r .additions ≡ e .additions)
-unfolding rankOutcome
+-- Rank answers as many rows as are kept, and the elimination's additions, and marks its points
+rank-kept : (b : List ℕ) (n d : ℕ) (r : Ranking) → RankAccepts b n d r → let e : Elimination = eliminated graded n d (points b) in
+    (r .rank ≡ length (e .kept)) × (r .rank ≡ length (e .points)) × (r .additions ≡ e .additions) × (r .kept ≡ mask (lists (e .points)))
+unfolding keptMask
 rank-kept b n d r h =
-    let (_, same) = accepted-passes (rankChecks b n d 8192) _ r h in
-    let is : r ≡ ranked graded n d (points b) = cc in
-    (ap (λ (x : Ranked). x .rank) is, ap (λ (x : Ranked). x .rank) is ∙ as-many n d (points b), ap (λ (x : Ranked). x .additions) is)
+    let is : r ≡ ranking graded n d (points b) = sym (passed graded b n d 8192 512 r h .1) in
+    (ap (λ (x : Ranking). x .rank) is, ap (λ (x : Ranking). x .rank) is ∙ as-many n d (points b), ap (λ (x : Ranking). x .additions) is, ap (λ (x : Ranking). x .kept) is)
 
 -- the points of a mask
 points-are : (b : List ℕ) (a : ℕ) → List·Memᴰ a (points b) ↔ (getD b a 0 ≡ 1)
@@ -58,35 +58,26 @@ part-is side s f a =
     let says = member-select (λ b. eqb (getD f b 0) side) (points s) a in
     (λ m. (points-are s a .0 (says .0 m .1), eqb-true _ side (says .0 m .0)), λ h. says .1 (eq-eqb _ side (h .1), points-are s a .1 (h .0)))
 
--- the empty mask has 512 bytes
-empty-long : length (zeros 512) ≡ 512
-unfolding zeros
-empty-long = length-replicate {A = ℕ} 512 0
-
--- each is 0
-empty-byte : (a : ℕ) → getD (zeros 512) a 0 ≡ 0
-unfolding zeros
-empty-byte a = elim (decLt a 512) [
-  | yes l ↦ getD-replicate {A = ℕ} 512 a 0 0 l
-  | no l ↦ List·getD-eq-default (replicate 512 0) 0 {n = a} (omega (arith, length-replicate {A = ℕ} 512 0))
-]
-
--- it has no point
+-- the empty mask has no point
 empty-points : points (zeros 512) ≡ []
 unfolding zeros upFrom select consIf
 empty-points = refl
 
--- it is accepted, and gives 0 and 0
-empty-mask : (n d : ℕ) → Taps n → d ≤ n → RankAccepts (zeros 512) n d (record { rank = 0; additions = 0 })
-unfolding rankOutcome eliminated takePoints
-empty-mask n d t l = verdict-passes (rankChecks (zeros 512) n d 8192) _ (all-passed (rankChecks (zeros 512) n d 8192)
-    (eq-eqb _ 512 empty-long, (refl, (taps-range n .1 t, (formed, (le-leb d n l, tt)))))) ∙ ap accepted none
+-- the mask of no points is zero
+no-marks : mask (lists []) ≡ zeros 512
+unfolding zeros withOnes
+no-marks = sym (with-ones-mask [])
+
+-- it is accepted, and gives 0 and 0 and no kept point
+empty-mask : (n d : ℕ) → Taps n → d ≤ n → RankAccepts (zeros 512) n d (record { rank = 0; additions = 0; kept = zeros 512 })
+unfolding eliminated takePoints keptMask
+empty-mask n d t l = rank-accepts graded (zeros 512) n d (length-zeros 512) (taps-range n .1 t) formed l ∙ ap accepted none
   where
     formed : wellFormed n (zeros 512) ≡ true
-    formed = formed-says n (zeros 512) .1 (λ a i. omega (arith, empty-byte a), λ a i. empty-byte a)
+    formed = formed-says n (zeros 512) .1 (λ a i. omega (arith, zeros-at 512 a), λ a i. zeros-at 512 a)
 
-    none : ranked graded n d (points (zeros 512)) ≡ record { rank = 0; additions = 0 }
-    none = rw empty-points
+    none : ranking graded n d (points (zeros 512)) ≡ record { rank = 0; additions = 0; kept = zeros 512 }
+    none = rw empty-points (ap (λ x. record { rank = 0; additions = 0; kept = x }) no-marks)
 
 -- each of them
 pub rank-words : RankWords

@@ -24,7 +24,7 @@ use Rattle.gf2.specs.Rank.{Rank}
 use Rattle.gf2.proofs.Rank.{rank-unique}
 use Rattle.point_rows.specs.Rows.{rows}
 use Rattle.matrix.specs.Matrix.{rankOf}
-use Rattle.matrix.specs.Rank.{ranked, rankChecks, rankOutcome}
+use Rattle.matrix.specs.Rank.{ranking, rankChecks, rankOutcome}
 use Rattle.matrix.proofs.RankOf.{rank-of}
 use Rattle.filter.specs.Part.{part}
 use Rattle.filter_file.specs.Write.{fileOf, writeInputs, roomFor, writeOutcome}
@@ -62,16 +62,16 @@ equal-ranks-say n d s f side = (
 )
 
 -- what Rank refuses
-pub rank-refuses : (b : List ℕ) (n d m k : ℕ) → (rankOutcome graded b n d m ≡ refused k) ↔ FirstBroken (rankRules b n d m) k
+pub rank-refuses : (b : List ℕ) (n d m l k : ℕ) → (rankOutcome graded b n d m l ≡ refused k) ↔ FirstBroken (rankRules b n d m l) k
 unfolding rankOutcome
-rank-refuses b n d m k = refused-first (ranked graded n d (points b)) k {cs = rankChecks b n d m} {rs = rankRules b n d m}
-    (equal-says (length b) 512 also equal-says m 8192 also taps-range n also formed-says n b also most-says d n also nothing)
+rank-refuses b n d m l k = refused-first (ranking graded n d (points b)) k {cs = rankChecks b n d m l} {rs = rankRules b n d m l}
+    (equal-says (length b) 512 also equal-says m 8192 also equal-says l 512 also taps-range n also formed-says n b also most-says d n also nothing)
 
 -- what Judge refuses
-pub judge-refuses : (n : ℕ) (s f : List ℕ) (m p q k : ℕ) → (judgeOutcome graded s f n m p q ≡ refused k) ↔ FirstBroken (judgeRules s f n m p q) k
+pub judge-refuses : (n : ℕ) (s f : List ℕ) (m p q l k : ℕ) → (judgeOutcome graded s f n m p q l ≡ refused k) ↔ FirstBroken (judgeRules s f n m p q l) k
 unfolding judgeOutcome
-judge-refuses n s f m p q k = refused-first (judged graded n s f) k {cs = judgeChecks s f n m p q} {rs = judgeRules s f n m p q}
-    (equal-says (length s) 512 also equal-says (length f) 512 also equal-says m 8192 also equal-says p 512 also equal-says q 512
+judge-refuses n s f m p q l k = refused-first (judged graded n s f) k {cs = judgeChecks s f n m p q l} {rs = judgeRules s f n m p q l}
+    (equal-says (length s) 512 also equal-says (length f) 512 also equal-says m 8192 also equal-says p 512 also equal-says q 512 also equal-says l 512
     also taps-range n also formed-says n s also formed-says n f also has-point-says s also nothing)
 
 -- what Certify refuses

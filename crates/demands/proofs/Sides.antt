@@ -101,8 +101,8 @@ sheet-lines n s f j k e =
 pub both-sides : BothSides
 both-sides = record {
   every = λ n s f j e. let (h, has, is) = judge-accepted graded n s f j e in rw (← is) (sides-words n s f h has);
-  answered = λ o ws ws′ w w′ a j h e.
-      let (r, is, same) = found-judged (a .finding) (a .ranks) w′ j (h .answers ∙ e) in
+  answered = λ o ws ws′ w w′ m m′ a j h e.
+      let (r, is, same) = found-judged (a .finding) (a .ranks) w′ m′ j (h .answers ∙ e) in
       (r, is, ap (λ (i : Judgement). i .degrees) same, ap (λ (i : Judgement). i .degree) same, ap (λ (i : Judgement). i .side) same);
   printed = λ file c j e h.
       let s : List ℕ = mask (lists (c .set)) in

@@ -92,7 +92,7 @@ textOf (l ∷ ls) = ascii l ++ newline ++ textOf ls
 unfoldable pub holdsFact : Case → List ℕ → List ℕ → Outcome Judgement → Fact → Bool
 holdsFact c s f o (coefficients us) = onAccepted (λ x. sameList (exponents (convertLeaves (c .taps) f)) us) (convertOutcome (c .taps) f)
 holdsFact c s f o (noDegree k) = onAccepted (λ x. isRefused k (degreeOutcome (c .taps) (convertLeaves (c .taps) f))) (convertOutcome (c .taps) f)
-holdsFact c s f o (rank d r) = onAccepted (λ x. eqb (x .rank) r) (rankOutcome graded s (c .taps) d 8192)
+holdsFact c s f o (rank d r) = onAccepted (λ x. eqb (x .rank) r) (rankOutcome graded s (c .taps) d 8192 512)
 holdsFact c s f o (ranks d x y z) = onAccepted (λ j. eqb (setRank j d) x && eqb (partRanks j d .one) y && eqb (partRanks j d .zero) z) o
 holdsFact c s f o (setRanks rs) = onAccepted (λ j. sameList (map (setRank j) (below (c .taps + 1))) rs) o
 holdsFact c s f o (mark m) = onAccepted (λ j. isDegree m (j .mark)) o
@@ -111,7 +111,7 @@ unfoldable pub holds : Case → Bool
 holds c =
     let s : List ℕ = mask (lists (c .set)) in
     let f : List ℕ = mask (lists (c .table)) in
-    holdFacts c s f (judgeOutcome graded s f (c .taps) 8192 512 512) (c .facts)
+    holdFacts c s f (judgeOutcome graded s f (c .taps) 8192 512 512 512) (c .facts)
 
 -- each case of a list is so
 unfoldable pub holdAll : List Case → Bool

@@ -1,6 +1,6 @@
 -- The demands on the whole, sentence by sentence, about the definitions that the contracts equate with what the code answers and leaves.
 --   ConvertAccepts n b              Convert accepts n taps and the bytes b
---   RankAccepts b n d r             Rank accepts the points of the mask b at n taps and degree d, lent a workspace of the right length, and answers r
+--   RankAccepts b n d r             Rank accepts the points of the mask b at n taps and degree d, lent buffers of the right lengths, and answers and leaves r
 --   FewAdditions m r a              a additions are at most those that the formula allows for m points of rank r
 --   Demand1                         a file is read in full or refused by the number of its first fault, and a refusal changes none of the lent buffers
 --   Demand2                         table and coefficients turn into each other, every rank is that of the matrix of points against monomials, and few additions are made
@@ -22,11 +22,10 @@ use Rattle.polynomial.specs.declared.convert.ConvertAnswer.{ConvertAnswer}
 use Rattle.polynomial.specs.Convert.{convertOutcome, convertLeaves, ConvertContract}
 use Rattle.gf2.specs.Rank.{Rank}
 use Rattle.packed.specs.Packed.{zeros}
-use Rattle.matrix.specs.declared.rank.Ranked.{Ranked}
 use Rattle.point_rows.specs.Rows.{rows}
 use Rattle.matrix.specs.Matrix.{eliminated}
 use Rattle.matrix.specs.declared.rank.RankAnswer.{RankAnswer}
-use Rattle.matrix.specs.Rank.{rankOutcome, RankContract}
+use Rattle.matrix.specs.Rank.{Ranking, rankOutcome, RankContract}
 use Rattle.filter_file.specs.declared.read.ReadAnswer.{ReadAnswer}
 use Rattle.filter_file.specs.declared.write.WriteAnswer.{WriteAnswer}
 use Rattle.filter_file.specs.File.{Contents, encode, Valid}
@@ -48,9 +47,9 @@ use Rattle.certify.specs.Certify.{CertifyContract, CertifyAccepts}
 abbrev pub ConvertAccepts : ℕ → List ℕ → Type 0
 ConvertAccepts n b = convertOutcome n b ≡ accepted tt
 
--- Rank accepts the points of the mask b at n taps and degree d, lent a workspace of the right length, and answers r
-abbrev pub RankAccepts : List ℕ → ℕ → ℕ → Ranked → Type 0
-RankAccepts b n d r = rankOutcome graded b n d 8192 ≡ accepted r
+-- Rank accepts the points of the mask b at n taps and degree d, lent buffers of the right lengths, and answers and leaves r
+abbrev pub RankAccepts : List ℕ → ℕ → ℕ → Ranking → Type 0
+RankAccepts b n d r = rankOutcome graded b n d 8192 512 ≡ accepted r
 
 -- at most m × r - r × (r + 1) / 2, with what is taken away on the other side
 abbrev pub FewAdditions : ℕ → ℕ → ℕ → Type 0
@@ -82,10 +81,10 @@ pub record Demand1 : Type 0 where
   -- of Convert,
   pub convert-keeps : (n : ℕ) (b b′ : List ℕ) (r : ConvertAnswer) (k : ℕ) → ConvertContract n b b′ r → convertOutcome n b ≡ refused k → b′ ≡ b
   -- of Rank,
-  pub rank-keeps : (o : Outcome Ranked) (ws ws′ : List ℕ) (r : RankAnswer) (k : ℕ) → RankContract o ws ws′ r → o ≡ refused k → ws′ ≡ ws
+  pub rank-keeps : (o : Outcome Ranking) (ws ws′ m m′ : List ℕ) (r : RankAnswer) (k : ℕ) → RankContract o ws ws′ m m′ r → o ≡ refused k → (ws′ ≡ ws) × (m′ ≡ m)
   -- of Judge,
-  pub judge-keeps : (o : Outcome Judgement) (ws ws′ : List ℕ) (w w′ : Sides (List ℕ)) (r : JudgeAnswer) (k : ℕ)
-      → JudgeContract o ws ws′ w w′ r → o ≡ refused k → (ws′ ≡ ws) × (w′ ≡ w)
+  pub judge-keeps : (o : Outcome Judgement) (ws ws′ : List ℕ) (w w′ : Sides (List ℕ)) (m m′ : List ℕ) (r : JudgeAnswer) (k : ℕ)
+      → JudgeContract o ws ws′ w w′ m m′ r → o ≡ refused k → (ws′ ≡ ws) × (w′ ≡ w) × (m′ ≡ m)
   -- and of Certify, save that 12 leaves the workspace zero
   pub certify-keeps : (o : Outcome (List ℕ)) (ws ws′ c c′ : List ℕ) (r : CertifyAnswer) (k : ℕ)
       → CertifyContract o ws ws′ c c′ r → o ≡ refused k → (c′ ≡ c) × (k ≢ 12 → ws′ ≡ ws) × (k ≡ 12 → ws′ ≡ zeros (length ws))
@@ -102,14 +101,14 @@ pub record Demand2 : Type 0 where
   -- and back: what Convert leaves it accepts, and turns into what it was lent
   pub back : (n : ℕ) (b : List ℕ) → ConvertAccepts n b → ConvertAccepts n (convertLeaves n b) × (convertLeaves n (convertLeaves n b) ≡ b)
   -- Rank's rank is the rank over the field of two elements of the matrix of the mask's points against the monomials up to the degree
-  pub rank : (b : List ℕ) (n d : ℕ) (r : Ranked) → RankAccepts b n d r → Rank (rows graded n d (points b)) (r .rank)
+  pub rank : (b : List ℕ) (n d : ℕ) (r : Ranking) → RankAccepts b n d r → Rank (rows graded n d (points b)) (r .rank)
   -- so are the ranks that Judge gives: of the set
   pub set-rank : (n : ℕ) (s f : List ℕ) (j : Judgement) → JudgeAccepts graded n s f j → (d : ℕ) → d ≤ n → Rank (rows graded n d (points s)) (setRank j d)
   -- and of each part
   pub part-rank : (n : ℕ) (s f : List ℕ) (j : Judgement) → JudgeAccepts graded n s f j → (side d : ℕ) → side ≤ 1 → d ≤ n
       → Rank (rows graded n d (part side s f)) (ofSide side (partRanks j d))
   -- for m points of rank r the additions are at most m × r - r × (r + 1) / 2: of Rank,
-  pub additions : (b : List ℕ) (n d : ℕ) (r : Ranked) → RankAccepts b n d r → FewAdditions (length (points b)) (r .rank) (r .additions)
+  pub additions : (b : List ℕ) (n d : ℕ) (r : Ranking) → RankAccepts b n d r → FewAdditions (length (points b)) (r .rank) (r .additions)
   -- and of each elimination whose additions Judge sums: of the set
   pub set-additions : (n : ℕ) (s f : List ℕ) (j : Judgement) → JudgeAccepts graded n s f j → (d : ℕ) → d ≤ n
       → FewAdditions (length (points s)) (setRank j d) (eliminated graded n d (points s) .additions)

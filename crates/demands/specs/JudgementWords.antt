@@ -2,8 +2,8 @@
 -- over' but 'Check', with what 'Words', 'Outcomes' and 'Sheet' say of them, about the definitions that the contracts equate with what
 -- the code answers and leaves.
 --   SameRank n d ps qs             the points ps and qs have the same rank at degree d
---   rankRules b n d m              the rules of Rank, lent the mask b and a workspace of m numbers, in the order of checking
---   judgeRules s f n m p q         those of Judge, lent the set s, the table f, a workspace of m numbers and witness buffers of p and q bytes
+--   rankRules b n d m l            the rules of Rank, lent the mask b, a workspace of m numbers and a mask of l bytes for the kept points, in the order of checking
+--   judgeRules s f n m p q l       those of Judge, lent the set s, the table f, a workspace of m numbers, witness buffers of p and q bytes and such a mask of l bytes
 --   certifyRules s f n ..          those of Certify
 --   RankWords                      the sentences on elimination and on Rank
 --   JudgeWords n s f j k           those on what Judge answers and leaves, where the reported degree is k
@@ -34,9 +34,8 @@ use Rattle.gf2.specs.Meeting.{Step, KeptPoint}
 use Rattle.packed.specs.Packed.{zeros}
 use Rattle.point_rows.specs.Rows.{row, rows}
 use Rattle.matrix.specs.Matrix.{eliminated}
-use Rattle.matrix.specs.declared.rank.Ranked.{Ranked}
 use Rattle.matrix.specs.declared.rank.RankAnswer.{RankAnswer}
-use Rattle.matrix.specs.Rank.{rankOutcome, RankContract}
+use Rattle.matrix.specs.Rank.{Ranking, rankOutcome, RankContract}
 use Rattle.filter.specs.Sides.{Sides, ofSide}
 use Rattle.filter.specs.Part.{part}
 use Rattle.filter.specs.Outside.{Outside, outside}
@@ -59,18 +58,26 @@ use Rattle.demands.specs.Demands.{RankAccepts}
 abbrev pub SameRank : ℕ → ℕ → List ℕ → List ℕ → Type 0
 SameRank n d ps qs = (r : ℕ) × Rank (rows graded n d ps) r × Rank (rows graded n d qs) r
 
--- 1: mask or workspace length; 4; 8; 10: d over n
-abbrev pub rankRules : List ℕ → ℕ → ℕ → ℕ → List Rule
-rankRules b n d m = 1 unless (length b ≡ 512) ∷ 1 unless (m ≡ 8192) ∷ 4 unless Taps n ∷ 8 unless WellFormed n b ∷ 10 unless (d ≤ n) ∷ []
+-- 1: mask or workspace length, or that of the mask of kept points; 4; 8; 10: d over n
+abbrev pub rankRules : List ℕ → ℕ → ℕ → ℕ → ℕ → List Rule
+rankRules b n d m l =
+    1 unless (length b ≡ 512)
+    ∷ 1 unless (m ≡ 8192)
+    ∷ 1 unless (l ≡ 512)
+    ∷ 4 unless Taps n
+    ∷ 8 unless WellFormed n b
+    ∷ 10 unless (d ≤ n)
+    ∷ []
 
--- 1: set, table, workspace or either of two 512-byte witness buffers; 4; 8 for the set, then the table; 6: no point in S
-abbrev pub judgeRules : List ℕ → List ℕ → ℕ → ℕ → ℕ → ℕ → List Rule
-judgeRules s f n m p q =
+-- 1: set, table, workspace, either of two 512-byte witness buffers or the mask of kept points; 4; 8 for the set, then the table; 6: no point in S
+abbrev pub judgeRules : List ℕ → List ℕ → ℕ → ℕ → ℕ → ℕ → ℕ → List Rule
+judgeRules s f n m p q l =
     1 unless (length s ≡ 512)
     ∷ 1 unless (length f ≡ 512)
     ∷ 1 unless (m ≡ 8192)
     ∷ 1 unless (p ≡ 512)
     ∷ 1 unless (q ≡ 512)
+    ∷ 1 unless (l ≡ 512)
     ∷ 4 unless Taps n
     ∷ 8 unless WellFormed n s
     ∷ 8 unless WellFormed n f
@@ -126,13 +133,13 @@ pub record RankWords : Type 0 where
   pub kept-rise : (n d : ℕ) (ps : List ℕ) → Rising ps → Rising (eliminated graded n d ps .points)
   -- the rank of any points is the number kept
   pub number-kept : (n d : ℕ) (ps : List ℕ) (r : ℕ) → Rank (rows graded n d ps) r ↔ (r ≡ length (eliminated graded n d ps .kept))
-  -- so is the rank that Rank answers, and its additions are those of the elimination
-  pub rank-kept : (b : List ℕ) (n d : ℕ) (r : Ranked) → RankAccepts b n d r → let e : Elimination = eliminated graded n d (points b) in
-      (r .rank ≡ length (e .kept)) × (r .rank ≡ length (e .points)) × (r .additions ≡ e .additions)
-  -- an empty mask is accepted: 0 and 0
-  pub empty-mask : (n d : ℕ) → Taps n → d ≤ n → RankAccepts (zeros 512) n d (record { rank = 0; additions = 0 })
+  -- so is the rank that Rank answers, its additions are those of the elimination, and its mask marks the points of that
+  pub rank-kept : (b : List ℕ) (n d : ℕ) (r : Ranking) → RankAccepts b n d r → let e : Elimination = eliminated graded n d (points b) in
+      (r .rank ≡ length (e .kept)) × (r .rank ≡ length (e .points)) × (r .additions ≡ e .additions) × (r .kept ≡ mask (lists (e .points)))
+  -- an empty mask is accepted: 0 and 0, and no point is kept
+  pub empty-mask : (n d : ℕ) → Taps n → d ≤ n → RankAccepts (zeros 512) n d (record { rank = 0; additions = 0; kept = zeros 512 })
   -- a refusal is by the number of the first rule that does not hold
-  pub refuses : (b : List ℕ) (n d m k : ℕ) → (rankOutcome graded b n d m ≡ refused k) ↔ FirstBroken (rankRules b n d m) k
+  pub refuses : (b : List ℕ) (n d m l k : ℕ) → (rankOutcome graded b n d m l ≡ refused k) ↔ FirstBroken (rankRules b n d m l) k
 
 -- on what Judge answers and leaves
 pub record JudgeWords (n : ℕ) (s f : List ℕ) (j : Judgement) (k : ℕ) : Type 0 where
@@ -193,7 +200,7 @@ pub record JudgementWords : Type 0 where
   -- on elimination, and on Rank
   pub rank : RankWords
   -- a refusal of Judge is by the number of the first rule that does not hold
-  pub judge-refuses : (n : ℕ) (s f : List ℕ) (m p q k : ℕ) → (judgeOutcome graded s f n m p q ≡ refused k) ↔ FirstBroken (judgeRules s f n m p q) k
+  pub judge-refuses : (n : ℕ) (s f : List ℕ) (m p q l k : ℕ) → (judgeOutcome graded s f n m p q l ≡ refused k) ↔ FirstBroken (judgeRules s f n m p q l) k
   -- where Judge accepts, what it answers and leaves is as its sentences say
   pub judge : (n : ℕ) (s f : List ℕ) (j : Judgement) (k : ℕ) → JudgeAccepts graded n s f j → j .degree ≡ some k → JudgeWords n s f j k
   -- a refusal of Certify is by the number of the first rule that does not hold
@@ -204,15 +211,15 @@ pub record JudgementWords : Type 0 where
   -- what Hand over hands back is as its sentences say
   pub hand-over : (n side : ℕ) (w : Sides (List ℕ)) (handed : List ℕ) → HandOverContract n side w handed → HandOverWords n side w handed
   -- after acceptance the workspace is all zero: of Rank,
-  pub rank-zeros : (o : Outcome Ranked) (ws ws′ : List ℕ) (a : RankAnswer) (r : Ranked) → RankContract o ws ws′ a → o ≡ accepted r → ws′ ≡ zeros (length ws)
+  pub rank-zeros : (o : Outcome Ranking) (ws ws′ m m′ : List ℕ) (a : RankAnswer) (r : Ranking) → RankContract o ws ws′ m m′ a → o ≡ accepted r → ws′ ≡ zeros (length ws)
   -- of Judge,
-  pub judge-zeros : (o : Outcome Judgement) (ws ws′ : List ℕ) (w w′ : Sides (List ℕ)) (a : JudgeAnswer) (j : Judgement)
-      → JudgeContract o ws ws′ w w′ a → o ≡ accepted j → ws′ ≡ zeros (length ws)
+  pub judge-zeros : (o : Outcome Judgement) (ws ws′ : List ℕ) (w w′ : Sides (List ℕ)) (m m′ : List ℕ) (a : JudgeAnswer) (j : Judgement)
+      → JudgeContract o ws ws′ w w′ m m′ a → o ≡ accepted j → ws′ ≡ zeros (length ws)
   -- and of Certify
   pub certify-zeros : (o : Outcome (List ℕ)) (ws ws′ c c′ : List ℕ) (a : CertifyAnswer) (x : List ℕ)
       → CertifyContract o ws ws′ c c′ a → o ≡ accepted x → ws′ ≡ zeros (length ws)
   -- a refusal of Judge answers its number alone: the ranks beside it are all 0
-  pub judge-number-alone : (o : Outcome Judgement) (ws ws′ : List ℕ) (w w′ : Sides (List ℕ)) (a : JudgeAnswer) (k : ℕ)
-      → JudgeContract o ws ws′ w w′ a → o ≡ refused k → a .ranks ≡ replicate 10 noRanks
+  pub judge-number-alone : (o : Outcome Judgement) (ws ws′ : List ℕ) (w w′ : Sides (List ℕ)) (m m′ : List ℕ) (a : JudgeAnswer) (k : ℕ)
+      → JudgeContract o ws ws′ w w′ m m′ a → o ≡ refused k → a .ranks ≡ replicate 10 noRanks
   -- on what the sheet is made of
   pub sheet : SheetWords

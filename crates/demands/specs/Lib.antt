@@ -3,6 +3,7 @@ pub mod Cases
 pub mod Check
 pub mod Demands
 pub mod JudgementWords
+pub mod Kept
 pub mod Mark
 pub mod Sides
 pub mod Weight

@@ -76,11 +76,11 @@ pub record SetMark : Type 0 where
   pub unreached : let s : List ℕ = mask (λ u. ltb u 17) in ((f : List ℕ) × (j : Judgement) × JudgeAccepts graded 5 s f j)
       × ((f : List ℕ) (j : Judgement) → JudgeAccepts graded 5 s f j → (j .mark ≡ some 2) × ((k : ℕ) → j .degree ≡ some k → k ≤ 1))
   -- what is answered has it, beside the reported degree,
-  pub answered : (o : Outcome Judgement) (ws ws′ : List ℕ) (w w′ : Sides (List ℕ)) (a : JudgeAnswer) (j : Judgement)
-      → JudgeContract o ws ws′ w w′ a → o ≡ accepted j → (r : Report) × (a .finding ≡ Judged r) × (some (r .mark) ≡ j .mark) × (some (r .degree) ≡ j .degree)
+  pub answered : (o : Outcome Judgement) (ws ws′ : List ℕ) (w w′ : Sides (List ℕ)) (m m′ : List ℕ) (a : JudgeAnswer) (j : Judgement)
+      → JudgeContract o ws ws′ w w′ m m′ a → o ≡ accepted j → (r : Report) × (a .finding ≡ Judged r) × (some (r .mark) ≡ j .mark) × (some (r .degree) ≡ j .degree)
   -- and in every report of Judge the degree is at most the mark, and the mark at most n
-  pub report-below : (n : ℕ) (s f ws ws′ : List ℕ) (w w′ : Sides (List ℕ)) (a : JudgeAnswer) (r : Report)
-      → JudgeContract (judgeOutcome graded s f n (length ws) (length (w .one)) (length (w .zero))) ws ws′ w w′ a → a .finding ≡ Judged r
+  pub report-below : (n : ℕ) (s f ws ws′ : List ℕ) (w w′ : Sides (List ℕ)) (m m′ : List ℕ) (a : JudgeAnswer) (r : Report)
+      → JudgeContract (judgeOutcome graded s f n (length ws) (length (w .one)) (length (w .zero)) (length m)) ws ws′ w w′ m m′ a → a .finding ≡ Judged r
       → (r .degree ≤ r .mark) × (r .mark ≤ n)
   -- the sheet of a file that is read prints it on its first line, behind n and the number of points of S
   pub printed : (file : List ℕ) (c : Contents) (j : Judgement) → reading file ≡ accepted c

@@ -60,8 +60,8 @@ pub record BothSides : Type 0 where
   -- each side's degree is as its sentences say
   pub every : (n : ℕ) (s f : List ℕ) (j : Judgement) → JudgeAccepts graded n s f j → SidesWords n s f j
   -- what is answered has them: `one` is side 1's, `zero` side 0's, beside the reported degree and the side
-  pub answered : (o : Outcome Judgement) (ws ws′ : List ℕ) (w w′ : Sides (List ℕ)) (a : JudgeAnswer) (j : Judgement)
-      → JudgeContract o ws ws′ w w′ a → o ≡ accepted j → (r : Report) × (a .finding ≡ Judged r)
+  pub answered : (o : Outcome Judgement) (ws ws′ : List ℕ) (w w′ : Sides (List ℕ)) (m m′ : List ℕ) (a : JudgeAnswer) (j : Judgement)
+      → JudgeContract o ws ws′ w w′ m m′ a → o ≡ accepted j → (r : Report) × (a .finding ≡ Judged r)
       × (degreesOf (r .one) (r .zero) ≡ j .degrees) × (some (r .degree) ≡ j .degree) × (r .side ≡ j .side)
   -- the sheet of a file that is read prints them on the line after the degree line: the whole sheet, line by line
   pub printed : (file : List ℕ) (c : Contents) (j : Judgement) → reading file ≡ accepted c

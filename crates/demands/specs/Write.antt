@@ -77,7 +77,7 @@ pub record RoundTrips : Type 0 where
   pub refuses : (n : ℕ) (s f : List ℕ) (m k : ℕ) → (writeOutcome s f n m ≡ refused k) ↔ FirstBroken (writeRules s f n m) k
   -- an answer is a refusal exactly when the outcome is, by the same number
   pub refusal-answered : (o : Outcome (List ℕ)) (w : WriteAnswer) (out₀ out₁ : List ℕ) (k : ℕ) → WriteContract o w out₀ out₁ → (writingOf w ≡ refused k) ↔ (o ≡ refused k)
-  -- Write checks set, table and n as Judge does, lent a workspace and witness buffers of the right lengths: what one accepts, the other accepts,
+  -- Write checks set, table and n as Judge does, lent a workspace, witness buffers and a mask of kept points of the right lengths: what one accepts, the other accepts,
   pub accepts-as-judge : (n : ℕ) (s f : List ℕ) → Writable n s f ↔ ((j : Judgement) × JudgeAccepts graded n s f j)
   -- and what one refuses, save by 13, the other refuses by the same number, whatever the length of the output
-  pub refuses-as-judge : (n : ℕ) (s f : List ℕ) (m k : ℕ) → k ≢ 13 → (writeOutcome s f n m ≡ refused k) ↔ (judgeOutcome graded s f n 8192 512 512 ≡ refused k)
+  pub refuses-as-judge : (n : ℕ) (s f : List ℕ) (m k : ℕ) → k ≢ 13 → (writeOutcome s f n m ≡ refused k) ↔ (judgeOutcome graded s f n 8192 512 512 512 ≡ refused k)

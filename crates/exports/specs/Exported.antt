@@ -2,8 +2,8 @@
 -- the outcome o of its operation.
 --   ReadStatus o ..      the status, both buffers and the number of taps after Read
 --   WriteStatus o ..     the status, the output and the length of the file after Write
---   RankStatus o ..      the status, the workspace, the rank and the additions after Rank
---   JudgeStatus o ..     the status, the workspace, the witness buffers and the report after Judge
+--   RankStatus o ..      the status, the workspace, the mask of kept points, the rank and the additions after Rank
+--   JudgeStatus o ..     the status, the workspace, the witness buffers, the mask of kept points and the report after Judge
 --   CertifyStatus o ..   the status, the workspace and the certificate after Certify
 --   CheckStatus o ..     the status and the number for yes or no after Check
 --   inFront part copy    a buffer with a part at its front, as many bytes as it has room for
@@ -19,7 +19,7 @@ use Rattle.cube.specs.NumberLists.{lists}
 use Rattle.cube.specs.Mask.{byte, mask}
 use Rattle.refusal.specs.Outcome.{Outcome, accepted, left, leftBy}
 use Rattle.filter_file.specs.File.{Contents}
-use Rattle.matrix.specs.declared.rank.Ranked.{Ranked}
+use Rattle.matrix.specs.Rank.{Ranking}
 use Rattle.packed.specs.Packed.{zeros}
 use Rattle.filter.specs.Sides.{Sides}
 use Rattle.immunity.specs.Judgement.{Judgement}
@@ -41,19 +41,21 @@ pub record WriteStatus (o : Outcome (List ℕ)) (out out′ : List ℕ) (k k′ 
   pub output : out′ ≡ leftBy o out (λ file. file ++ drop (length file) out)
   pub long : k′ ≡ leftBy o k length
 
--- Rank: workspace, rank and additions at entry and at exit
-pub record RankStatus (o : Outcome Ranked) (ws ws′ : List ℕ) (k k′ a a′ r : ℕ) : Type 0 where
+-- Rank: workspace, mask of kept points, rank and additions at entry and at exit
+pub record RankStatus (o : Outcome Ranking) (ws ws′ m m′ : List ℕ) (k k′ a a′ r : ℕ) : Type 0 where
   pub status : r ≡ statusOf o
   pub workspace : ws′ ≡ left o ws (zeros (length ws))
+  pub kept : m′ ≡ leftBy o m (λ x. x .kept)
   pub rank : k′ ≡ leftBy o k (λ x. x .rank)
   pub additions : a′ ≡ leftBy o a (λ x. x .additions)
 
--- Judge: workspace, witness buffers and report at entry and at exit; the degree that it holds is one,
+-- Judge: workspace, witness buffers, mask of kept points and report at entry and at exit; the degree that it holds is one,
 -- side 1's own degree stands at 33, side 0's at 34, each 10 exactly where there is none, and the mark, which there always is, at 35
-pub record JudgeStatus (o : Outcome Judgement) (ws ws′ : List ℕ) (w w′ : Sides (List ℕ)) (ns ns′ : List ℕ) (r : ℕ) : Type 0 where
+pub record JudgeStatus (o : Outcome Judgement) (ws ws′ : List ℕ) (w w′ : Sides (List ℕ)) (m m′ ns ns′ : List ℕ) (r : ℕ) : Type 0 where
   pub status : r ≡ statusOf o
   pub workspace : ws′ ≡ left o ws (zeros (length ws))
   pub witnesses : w′ ≡ leftBy o w (λ j. j .witnesses)
+  pub kept : m′ ≡ leftBy o m (λ j. j .kept)
   pub report : ns′ ≡ leftBy o ns reportOf
   pub reported : (j : Judgement) → o ≡ accepted j → (k : ℕ) × (j .degree ≡ some k)
   pub none-named : (j : Judgement) → o ≡ accepted j → ((getD ns′ 33 0 ≡ 10) ↔ (j .degrees .one ≡ none)) × ((getD ns′ 34 0 ≡ 10) ↔ (j .degrees .zero ≡ none))

@@ -89,19 +89,21 @@ pub extern "C" fn ekthavrul_write(
     }
 }
 
-// Rank: the rank and the count of additions go to `rank` and `additions`.
+// Rank: the mask of the kept points goes to `kept`, the rank and the count of additions to `rank` and `additions`.
 #[no_mangle]
 pub extern "C" fn ekthavrul_rank(
     mask: &[u8],
     n: usize,
     d: usize,
     workspace: &mut [u64],
+    kept: &mut [u8],
     rank: &mut usize,
     additions: &mut u32,
 ) -> u8
-    ensures { λ r. ⌜ RankStatus (rankOutcome graded (now (mask .entry)) n d (length (now (workspace .entry)))) (now (workspace .entry)) (now (workspace .exit)) (now (rank .entry)) (now (rank .exit)) (now (additions .entry)) (now (additions .exit)) r ⌝ }
+    ensures { λ r. ⌜ RankStatus (rankOutcome graded (now (mask .entry)) n d (length (now (workspace .entry))) (length (now (kept .entry))))
+        (now (workspace .entry)) (now (workspace .exit)) (now (kept .entry)) (now (kept .exit)) (now (rank .entry)) (now (rank .exit)) (now (additions .entry)) (now (additions .exit)) r ⌝ }
 {
-    match matrix::rank::rank(mask, n, d, workspace) {
+    match matrix::rank::rank(mask, n, d, workspace, kept) {
         RankAnswer::Refused(x) => refusal::number(x),
         RankAnswer::Accepted(found) => {
             *rank = found.rank;
@@ -111,8 +113,8 @@ pub extern "C" fn ekthavrul_rank(
     }
 }
 
-// Judge: the ranks at each degree, the reported degree, the side, the count of additions, each side's own degree and the
-// mark go to `report`.
+// Judge: the mask of the kept points of the set at the reported degree goes to `kept`; the ranks at each degree, the
+// reported degree, the side, the count of additions, each side's own degree and the mark go to `report`.
 #[no_mangle]
 pub extern "C" fn ekthavrul_judge(
     set: &[u8],
@@ -121,12 +123,13 @@ pub extern "C" fn ekthavrul_judge(
     workspace: &mut [u64],
     one: &mut [u8],
     zero: &mut [u8],
+    kept: &mut [u8],
     report: &mut [u32; REPORT],
 ) -> u8
-    ensures { λ r. ⌜ JudgeStatus (judgeOutcome graded (now (set .entry)) (now (table .entry)) n (length (now (workspace .entry))) (length (now (one .entry))) (length (now (zero .entry))))
-        (now (workspace .entry)) (now (workspace .exit)) (pair (now (one .entry)) (now (zero .entry))) (pair (now (one .exit)) (now (zero .exit))) (now (report .entry)) (now (report .exit)) r ⌝ }
+    ensures { λ r. ⌜ JudgeStatus (judgeOutcome graded (now (set .entry)) (now (table .entry)) n (length (now (workspace .entry))) (length (now (one .entry))) (length (now (zero .entry))) (length (now (kept .entry))))
+        (now (workspace .entry)) (now (workspace .exit)) (pair (now (one .entry)) (now (zero .entry))) (pair (now (one .exit)) (now (zero .exit))) (now (kept .entry)) (now (kept .exit)) (now (report .entry)) (now (report .exit)) r ⌝ }
 {
-    let answer = judge::judge(set, table, n, workspace, one, zero);
+    let answer = judge::judge(set, table, n, workspace, one, zero, kept);
     let finding = answer.finding;
     match finding {
         Finding::Refused(x) => refusal::number(x),

@@ -9,6 +9,7 @@
 --   additionsAt                 the additions of the three eliminations at a degree
 --   summed t xs                 the sum of t over a list
 --   witnessBytes .. k side      the witness buffer of a side for the reported degree: zeros where the side does not differ
+--   keptBytes o n s k           the mask of the kept points of the set for the reported degree: zeros where there is none
 --   Judgement, judged           all of it
 --   setRank j d                 the rank of the set at degree d that a judgement gives
 --   partRanks j d               those of the parts, one for each side
@@ -25,6 +26,7 @@ use Rattle.cube.specs.Mask.{points, byte, mask}
 use Rattle.filter.specs.Sides.{Sides, ofSide, bothSides}
 use Rattle.filter.specs.Part.{part, bothParts}
 use Rattle.matrix.specs.Matrix.{rankOf}
+use Rattle.matrix.specs.Kept.{keptMask}
 use Rattle.immunity.specs.declared.Ranks.{Ranks}
 use Rattle.immunity.specs.Ranks.{noRanks, ranksIf, parts, ranksUpTo, additionsOf}
 use Rattle.immunity.specs.First.{first}
@@ -79,7 +81,13 @@ unfolding witnessAt
 witnessBytes o n s f none side = mask (λ u. false)
 witnessBytes o n s f (some k) side = mask (witnessAt o n k (points s) (part side s f))
 
--- what Judge answers, and leaves in the two witness buffers
+-- the mask of the kept points of the set for the reported degree
+unfoldable pub keptBytes : List ℕ → ℕ → List ℕ → Option ℕ → List ℕ
+unfolding keptMask
+keptBytes o n s none = mask (λ u. false)
+keptBytes o n s (some k) = keptMask o n k (points s)
+
+-- what Judge answers, and leaves in the two witness buffers and in the mask of kept points
 pub record Judgement : Type 0 where
   pub ranks : List Ranks
   pub mark : Option ℕ
@@ -88,10 +96,11 @@ pub record Judgement : Type 0 where
   pub degrees : Sides (Option ℕ)
   pub additions : ℕ
   pub witnesses : Sides (List ℕ)
+  pub kept : List ℕ
 
 -- the judgement of a set and a table
 unfoldable pub judged : List ℕ → ℕ → List ℕ → List ℕ → Judgement
-unfolding markOf reported sideDegree ranksAt sideAt additionsAt summed witnessBytes
+unfolding markOf reported sideDegree ranksAt sideAt additionsAt summed witnessBytes keptBytes
 judged o n s f =
     let k : Option ℕ = reported o n s f in
     record {
@@ -102,6 +111,7 @@ judged o n s f =
       degrees = bothSides (sideDegree o n s f);
       additions = summed (additionsAt o n s f) (below (n + 1));
       witnesses = bothSides (witnessBytes o n s f k);
+      kept = keptBytes o n s k;
     }
 
 -- the rank of the set at a degree

@@ -3,6 +3,7 @@
 --   first-given       the first degree whose ranks pass a test, of the ranks found and of the definition's
 --   first-reported    the first degree at which they differ is the reported one
 --   side-none         where the ranks of the set and of a side's part are equal, the part has no new point
+--   kept-marked       where the points with pivots in the columns of a degree are marked, the mask is that of the points kept there
 --   judgement-found   what is found and reported is the judgement
 --   in-order          what is answered and left in an equal order
 --   refuses           a broken check
@@ -21,7 +22,7 @@ use Rattle.refusal.specs.Outcome.{Outcome, refused, accepted, Check, left, left
 use Rattle.refusal.specs.Verdict.{verdict}
 use Rattle.refusal.specs.declared.verdict.Verdict.the-variants as verdicts
 use Rattle.refusal.proofs.Verdicts.{verdict-refuses, verdict-passes}
-use Rattle.cube.specs.NumberLists.{below, isEmpty, Inside}
+use Rattle.cube.specs.NumberLists.{below, lists, isEmpty, Inside}
 use Rattle.cube.specs.Cube.{size}
 use Rattle.cube.specs.Mask.{points, byte, mask}
 use Rattle.cube.proofs.Masks.{value-at, points-inside}
@@ -29,6 +30,7 @@ use Rattle.order.specs.Order.{Graded}
 use Rattle.packed.specs.Packed.{zeros}
 use Rattle.gf2.specs.Points.{Rising}
 use Rattle.gf2.specs.Vector.{Each}
+use Rattle.gf2.specs.Prefix.{pointsBelow}
 use Rattle.gf2.proofs.Each.{member-each}
 use Rattle.filter.specs.Sides.{Sides, pair, ofSide, bothSides}
 use Rattle.filter.specs.Filter.{Filter}
@@ -36,6 +38,7 @@ use Rattle.filter.specs.Part.{bothParts}
 use Rattle.filter.proofs.Filters.{few-taps}
 use Rattle.filter.proofs.Sides.{of-mapped}
 use Rattle.matrix.specs.Matrix.{rankOf}
+use Rattle.matrix.specs.Kept.{keptPoints, keptMask}
 use Rattle.matrix.proofs.FullRank.{rank-full}
 use Rattle.immunity.specs.declared.Ranks.{Ranks}
 use Rattle.immunity.specs.declared.SideDegree.{SideDegree}
@@ -44,13 +47,14 @@ use Rattle.immunity.specs.Mark.{twiceExceeds, markOf, markIn}
 use Rattle.immunity.specs.Witness.{newPoint, witnessAt}
 use Rattle.immunity.specs.Ranks.{noRanks, ranksIf, parts, ranksOf, ranksUpTo, additionsOf, partDiffers, differ}
 use Rattle.immunity.specs.SideDegree.{degreesOf}
-use Rattle.immunity.specs.Judgement.{Judgement, differs, reported, sideDegree, ranksAt, sideAt, additionsAt, summed, witnessBytes, judged}
+use Rattle.immunity.specs.Judgement.{Judgement, differs, reported, sideDegree, ranksAt, sideAt, additionsAt, summed, witnessBytes, keptBytes, judged}
 use Rattle.immunity.proofs.First.{first-same}
 use Rattle.immunity.proofs.FirstDegree.{degree-below}
 use Rattle.immunity.proofs.Given.{ranks-given, set-given}
 use Rattle.immunity.proofs.Mark.{mark-exists}
 use Rattle.immunity.proofs.NewPoint.{new-point-none}
 use Rattle.immunity.proofs.Reported.{filter-reports}
+use Rattle.degree_ranks.specs.Cut.{columnCount}
 use Rattle.judge.specs.declared.JudgeAnswer.{JudgeAnswer}
 use Rattle.judge.specs.declared.Report.{Report}
 use Rattle.judge.specs.declared.Finding.the-variants.{Refused, Judged}
@@ -79,6 +83,11 @@ module _ (o : List ℕ) (n : ℕ) (s f : List ℕ) where
   bytes-judged {k = k} p r h =
       h ∙ ap (λ (x : Sides (List ℕ)). pair (mask (witnessAt o n k (points s) (x .one))) (mask (witnessAt o n k (points s) (x .zero)))) p
       ∙ sym (ap (λ x. pair (witnessBytes o n s f x 1) (witnessBytes o n s f x 0)) r)
+
+  -- the mask of kept points for the reported degree
+  kept-judged : {m : List ℕ} {k : ℕ} → reported o n s f ≡ some k → m ≡ keptMask o n k (points s) → m ≡ whole .kept
+  unfolding judged keptBytes
+  kept-judged r h = h ∙ sym (ap (keptBytes o n s) r)
 
   module _ (small : n ≤ 9) {ranks : List Ranks} (given : ranks ≡ whole .ranks) where
     -- the first degree whose ranks pass a test
@@ -124,11 +133,18 @@ module _ (o : List ℕ) (n : ℕ) (ss : List ℕ) (ps : Sides (List ℕ)) (risin
     side-none side among e = new-point-none o n k (ofSide side ps) ss rising among
         (sym (ap (λ (r : Ranks). r .set) ranks-at) ∙ e ∙ ap (λ (r : Ranks). ofSide side (parts r)) ranks-at ∙ of-mapped (rankOf o n k) ps side)
 
+-- where the points with pivots in the columns of a degree are marked, the mask is that of the points kept there
+pub kept-marked : (o : List ℕ) (n : ℕ) (pivots qs ss : List ℕ) → ((d : ℕ) → d ≤ n → pointsBelow (columnCount o n d) pivots qs ≡ keptPoints o n d ss)
+    → {k c : ℕ} → k ≤ n → c ≡ columnCount o n k → {m : List ℕ} → m ≡ mask (lists (pointsBelow c pivots qs)) → m ≡ keptMask o n k ss
+unfolding keptMask
+kept-marked o n pivots qs ss h {k} l e g = g ∙ ap (λ c. mask (lists (pointsBelow c pivots qs))) e ∙ ap (λ x. mask (lists x)) (h k l)
+
 -- judgements are equal by parts
-judgement-by : {xs ys : List Ranks} {m i k j : Option ℕ} {a b c d : ℕ} {ks js : Sides (Option ℕ)} {v w : Sides (List ℕ)} → xs ≡ ys → m ≡ i → k ≡ j → a ≡ b → ks ≡ js → c ≡ d → v ≡ w
-    → _≡_ {A = Judgement} (record { ranks = xs; mark = m; degree = k; side = a; degrees = ks; additions = c; witnesses = v })
-    (record { ranks = ys; mark = i; degree = j; side = b; degrees = js; additions = d; witnesses = w })
-judgement-by e₁ e₂ e₃ e₄ e₅ e₆ e₇ = cc
+judgement-by : {xs ys : List Ranks} {m i k j : Option ℕ} {a b c d : ℕ} {ks js : Sides (Option ℕ)} {v w : Sides (List ℕ)} {p q : List ℕ}
+    → xs ≡ ys → m ≡ i → k ≡ j → a ≡ b → ks ≡ js → c ≡ d → v ≡ w → p ≡ q
+    → _≡_ {A = Judgement} (record { ranks = xs; mark = m; degree = k; side = a; degrees = ks; additions = c; witnesses = v; kept = p })
+    (record { ranks = ys; mark = i; degree = j; side = b; degrees = js; additions = d; witnesses = w; kept = q })
+judgement-by e₁ e₂ e₃ e₄ e₅ e₆ e₇ e₈ = cc
 
 module _ {o : List ℕ} (g : Graded o) {n : ℕ} {s f : List ℕ} (filter : Filter n s f) (some-point : isEmpty (points s) ≡ false) {ps : Sides (List ℕ)} (p : ps ≡ bothParts s f)
     {ranks : List Ranks} (h : ranks ≡ map (ranksUpTo o n (points s) ps) (below 10))
@@ -162,15 +178,16 @@ module _ {o : List ℕ} (g : Graded o) {n : ℕ} {s f : List ℕ} (filter : Filt
     is-mark e = let (j, is) = mark-exists g small s inside some-point in is ∙ ap some (sym (e ∙ ap (λ x. Option·getD x n) (mark-judged ∙ is)))
 
     -- what is found and reported is the judgement
-    pub judgement-found : {m additions : ℕ} {x y : SideDegree} {w : Sides (List ℕ)} {report : Report}
+    pub judgement-found : {m additions : ℕ} {x y : SideDegree} {w : Sides (List ℕ)} {kept : List ℕ} {report : Report}
         → report ≡ record { mark = m; degree = k; side = byte (partDiffers (getD ranks k noRanks) 1); one = x; zero = y; additions = additions }
         → m ≡ Option·getD (markIn ranks n) n
         → degreesOf x y ≡ bothSides (λ i. first (λ d. partDiffers (getD ranks d noRanks) i) (below (n + 1)))
         → additions ≡ summed (λ d. additionsOf o n d (points s) ps) (below (n + 1))
         → w ≡ pair (mask (witnessAt o n k (points s) (ps .one))) (mask (witnessAt o n k (points s) (ps .zero)))
-        → judgementOf report ranks w ≡ judged o n s f
+        → kept ≡ keptMask o n k (points s)
+        → judgementOf report ranks w kept ≡ judged o n s f
     unfolding judged
-    judgement-found {w = w} is a b c e = ap (λ y. judgementOf y ranks w) is ∙ judgement-by
+    judgement-found {w = w} {kept = kept} is a b c e q = ap (λ y. judgementOf y ranks w kept) is ∙ judgement-by
         (ranks-judged o n s f p h)
         (sym (is-mark a))
         (sym is-reported)
@@ -178,37 +195,39 @@ module _ {o : List ℕ} (g : Graded o) {n : ℕ} {s f : List ℕ} (filter : Filt
         (degrees-judged o n s f small (ranks-judged o n s f p h) b)
         (additions-judged o n s f p c)
         (bytes-judged o n s f p is-reported e)
+        (kept-judged o n s f is-reported q)
 
-module _ (o s f : List ℕ) (n : ℕ) (ws one zero : List ℕ) where
+module _ (o s f : List ℕ) (n : ℕ) (ws one zero kept : List ℕ) where
   -- the checks of what is lent
   abbrev checks : List Check
-  checks = judgeChecks s f n (length ws) (length one) (length zero)
+  checks = judgeChecks s f n (length ws) (length one) (length zero) (length kept)
 
   -- what Judge answers and leaves of it
   abbrev outcome : Outcome Judgement
-  outcome = judgeOutcome o s f n (length ws) (length one) (length zero)
+  outcome = judgeOutcome o s f n (length ws) (length one) (length zero) (length kept)
 
   -- the same in an equal order
-  pub in-order : {o′ : List ℕ} → o ≡ o′ → {ws′ : List ℕ} {w w′ : Sides (List ℕ)} {r : JudgeAnswer} → JudgeContract outcome ws ws′ w w′ r
-      → JudgeContract (judgeOutcome o′ s f n (length ws) (length one) (length zero)) ws ws′ w w′ r
-  in-order e {ws′} {w} {w′} {r} h = subst (λ x. JudgeContract (judgeOutcome x s f n (length ws) (length one) (length zero)) ws ws′ w w′ r) e h
+  pub in-order : {o′ : List ℕ} → o ≡ o′ → {ws′ : List ℕ} {w w′ : Sides (List ℕ)} {kept′ : List ℕ} {r : JudgeAnswer} → JudgeContract outcome ws ws′ w w′ kept kept′ r
+      → JudgeContract (judgeOutcome o′ s f n (length ws) (length one) (length zero) (length kept)) ws ws′ w w′ kept kept′ r
+  in-order e {ws′} {w} {w′} {kept′} {r} h = subst (λ x. JudgeContract (judgeOutcome x s f n (length ws) (length one) (length zero) (length kept)) ws ws′ w w′ kept kept′ r) e h
 
   -- a broken check
   pub refuses : {x : Refusal} → verdict checks ≡ verdicts.Refused x → {r : JudgeAnswer} → (r .finding ≡ Refused x) × (r .ranks ≡ replicate 10 noRanks)
-      → JudgeContract outcome ws ws (pair one zero) (pair one zero) r
+      → JudgeContract outcome ws ws (pair one zero) (pair one zero) kept kept r
   unfolding judgeOutcome
   refuses {x} e {r} h =
       let broken : outcome ≡ refused (numberOf x) = verdict-refuses checks _ e in
       record {
-        answers = ap (λ y. found y (r .ranks) (pair one zero)) (h .0) ∙ sym broken;
+        answers = ap (λ y. found y (r .ranks) (pair one zero) kept) (h .0) ∙ sym broken;
         no-ranks = h .1 ∙ sym (ap (λ y. leftBy y (replicate 10 noRanks) (λ j. j .ranks)) broken);
         leaves = sym (ap (λ y. left y ws (zeros (length ws))) broken);
         leaves-witnesses = sym (ap (λ y. leftBy y (pair one zero) (λ j. j .witnesses)) broken);
+        leaves-kept = sym (ap (λ y. leftBy y kept (λ j. j .kept)) broken);
       }
 
   -- no check is broken
-  pub accepts : verdict checks ≡ verdicts.Passed → {ws′ : List ℕ} {w : Sides (List ℕ)} {ranks : List Ranks} {r : Report} → ws′ ≡ zeros (length ws)
-      → judgementOf r ranks w ≡ judged o n s f → JudgeContract outcome ws ws′ (pair one zero) w (record { finding = Judged r; ranks = ranks })
+  pub accepts : verdict checks ≡ verdicts.Passed → {ws′ : List ℕ} {w : Sides (List ℕ)} {kept′ : List ℕ} {ranks : List Ranks} {r : Report} → ws′ ≡ zeros (length ws)
+      → judgementOf r ranks w kept′ ≡ judged o n s f → JudgeContract outcome ws ws′ (pair one zero) w kept kept′ (record { finding = Judged r; ranks = ranks })
   unfolding judgeOutcome
   accepts p z e =
       let passes : outcome ≡ accepted (judged o n s f) = verdict-passes checks _ p in
@@ -217,4 +236,5 @@ module _ (o s f : List ℕ) (n : ℕ) (ws one zero : List ℕ) where
         no-ranks = ap (λ (j : Judgement). j .ranks) e ∙ sym (ap (λ y. leftBy y (replicate 10 noRanks) (λ j. j .ranks)) passes);
         leaves = z ∙ sym (ap (λ y. left y ws (zeros (length ws))) passes);
         leaves-witnesses = ap (λ (j : Judgement). j .witnesses) e ∙ sym (ap (λ y. leftBy y (pair one zero) (λ j. j .witnesses)) passes);
+        leaves-kept = ap (λ (j : Judgement). j .kept) e ∙ sym (ap (λ y. leftBy y kept (λ j. j .kept)) passes);
       }

@@ -39,56 +39,58 @@ use Rattle.judge.specs.declared.Report.{Report}
 use Rattle.judge.specs.Judge.{judgeChecks, judgeOutcome, judgementOf, found, JudgeAccepts}
 
 -- what checks that pass show
-pub record Passes (n : ℕ) (s f : List ℕ) (m p q : ℕ) : Type 0 where
+pub record Passes (n : ℕ) (s f : List ℕ) (m p q l : ℕ) : Type 0 where
   pub filter : Filter n s f
   pub some : isEmpty (points s) ≡ false
   pub workspace-long : m ≡ 8192
   pub one-long : p ≡ 512
   pub zero-long : q ≡ 512
+  pub kept-long : l ≡ 512
 
 -- checks that pass show it
-pub judge-passed : (n : ℕ) (s f : List ℕ) (m p q : ℕ) → verdict (judgeChecks s f n m p q) ≡ Passed → Passes n s f m p q
-judge-passed n s f m p q e =
-    let (set, (table, (workspace, (one, (zero, (tapped, masks)))))) = passed-all (judgeChecks s f n m p q) e in
+pub judge-passed : (n : ℕ) (s f : List ℕ) (m p q l : ℕ) → verdict (judgeChecks s f n m p q l) ≡ Passed → Passes n s f m p q l
+judge-passed n s f m p q l e =
+    let (set, (table, (workspace, (one, (zero, (kept, (tapped, masks))))))) = passed-all (judgeChecks s f n m p q l) e in
     record {
       filter = a-filter n s f set table tapped masks;
       some = some-point n s f masks;
       workspace-long = eqb-true m 8192 workspace;
       one-long = eqb-true p 512 one;
       zero-long = eqb-true q 512 zero;
+      kept-long = eqb-true l 512 kept;
     }
 
 -- what is accepted of any lengths is a filter whose set has a point, and is judged as the definition says
-pub accepted-filter : (o s f : List ℕ) (n m p q : ℕ) (j : Judgement) → judgeOutcome o s f n m p q ≡ accepted j
+pub accepted-filter : (o s f : List ℕ) (n m p q l : ℕ) (j : Judgement) → judgeOutcome o s f n m p q l ≡ accepted j
     → Filter n s f × (isEmpty (points s) ≡ false) × (judged o n s f ≡ j)
 unfolding judgeOutcome
-accepted-filter o s f n m p q j e =
-    let (holds, same) = accepted-passes (judgeChecks s f n m p q) (accepted (judged o n s f)) j e in
-    let shown = judge-passed n s f m p q holds in
+accepted-filter o s f n m p q l j e =
+    let (holds, same) = accepted-passes (judgeChecks s f n m p q l) (accepted (judged o n s f)) j e in
+    let shown = judge-passed n s f m p q l holds in
     (shown .filter, shown .some, cc same)
 
 module _ (o : List ℕ) (n : ℕ) (s f : List ℕ) where
   -- so is what Judge accepts, lent the right lengths
   pub judge-accepted : (j : Judgement) → JudgeAccepts o n s f j → Filter n s f × (isEmpty (points s) ≡ false) × (judged o n s f ≡ j)
-  judge-accepted j e = accepted-filter o s f n 8192 512 512 j e
+  judge-accepted j e = accepted-filter o s f n 8192 512 512 512 j e
 
   -- such a filter is accepted
   pub judge-accepts : Filter n s f → isEmpty (points s) ≡ false → JudgeAccepts o n s f (judged o n s f)
   unfolding judgeOutcome
   judge-accepts h point =
-      verdict-passes (judgeChecks s f n 8192 512 512) (accepted (judged o n s f)) (all-passed (judgeChecks s f n 8192 512 512)
-      (eq-eqb (length s) 512 (h .set-long), (eq-eqb (length f) 512 (h .table-long), (refl, (refl, (refl, (h .tapped, passes n s f h point)))))))
+      verdict-passes (judgeChecks s f n 8192 512 512 512) (accepted (judged o n s f)) (all-passed (judgeChecks s f n 8192 512 512 512)
+      (eq-eqb (length s) 512 (h .set-long), (eq-eqb (length f) 512 (h .table-long), (refl, (refl, (refl, (refl, (h .tapped, passes n s f h point))))))))
 
 -- what is found and accepted is a report that states the judgement
-pub found-judged : (x : Finding) (ranks : List Ranks) (w : Sides (List ℕ)) (j : Judgement) → found x ranks w ≡ accepted j
-    → (r : Report) × (x ≡ Judged r) × (judgementOf r ranks w ≡ j)
-found-judged (Refused y) ranks w j e = absurd (not-both e)
-found-judged (Judged r) ranks w j e = (r, refl, ap (λ (o : Outcome Judgement). leftBy o j (λ i. i)) e)
+pub found-judged : (x : Finding) (ranks : List Ranks) (w : Sides (List ℕ)) (m : List ℕ) (j : Judgement) → found x ranks w m ≡ accepted j
+    → (r : Report) × (x ≡ Judged r) × (judgementOf r ranks w m ≡ j)
+found-judged (Refused y) ranks w m j e = absurd (not-both e)
+found-judged (Judged r) ranks w m j e = (r, refl, ap (λ (o : Outcome Judgement). leftBy o j (λ i. i)) e)
 
-module _ (o s f : List ℕ) (n m p q : ℕ) (j : Judgement) (e : judgeOutcome o s f n m p q ≡ accepted j) where
+module _ (o s f : List ℕ) (n m p q l : ℕ) (j : Judgement) (e : judgeOutcome o s f n m p q l ≡ accepted j) where
   -- the same of this judgement
   shows : Filter n s f × (isEmpty (points s) ≡ false) × (judged o n s f ≡ j)
-  shows = accepted-filter o s f n m p q j e
+  shows = accepted-filter o s f n m p q l j e
 
   -- it has ranks at ten degrees
   pub ranks-long : length (j .ranks) ≡ 10

@@ -1,5 +1,5 @@
 // Judge: docs/SPECIFICATION.md, 'Judge'. The ranks of a set and of its two parts at each degree, the mark, the reported
-// degree, each side's own, and the witnesses.
+// degree, each side's own, the witnesses, and the kept points of the set.
 ghost use mathlib.Core.Path.{_≡_};
 ghost use mathlib.Core.Option.{none};
 ghost use Prim.Native.Nat.{_≤_};
@@ -29,7 +29,10 @@ use filter::checks::check_taps;
 use filter::part::part_mask;
 use immunity::Ranks;
 use immunity::SideDegree;
+use matrix::kept::mark_below;
+use order::columns::column_count;
 use order::graded_order;
+use packed::COLUMNS;
 use packed::WORKSPACE;
 use packed::row::clear;
 use point_rows::fill_rows;
@@ -61,7 +64,7 @@ pub struct JudgeAnswer {
 
 // The ranks of the set and its parts at each degree, the mark, the first degree at which a part's rank differs from the
 // set's, each side's own such degree, and the witness of each side that differs at the first; for a set and a table of
-// `n` taps.
+// `n` taps. `kept` then marks the kept points of the set at the first such degree.
 pub fn judge(
     set: &[u8],
     table: &[u8],
@@ -69,15 +72,24 @@ pub fn judge(
     workspace: &mut [u64],
     one: &mut [u8],
     zero: &mut [u8],
+    kept: &mut [u8],
 ) -> JudgeAnswer
-    ensures { λ r. ⌜ JudgeContract (judgeOutcome graded (now (set .entry)) (now (table .entry)) n (length (now (workspace .entry))) (length (now (one .entry))) (length (now (zero .entry))))
-        (now (workspace .entry)) (now (workspace .exit)) (pair (now (one .entry)) (now (zero .entry))) (pair (now (one .exit)) (now (zero .exit))) r ⌝ }
+    ensures { λ r. ⌜ JudgeContract (judgeOutcome graded (now (set .entry)) (now (table .entry)) n (length (now (workspace .entry))) (length (now (one .entry))) (length (now (zero .entry))) (length (now (kept .entry))))
+        (now (workspace .entry)) (now (workspace .exit)) (pair (now (one .entry)) (now (zero .entry))) (pair (now (one .exit)) (now (zero .exit))) (now (kept .entry)) (now (kept .exit)) r ⌝ }
 {
-    match judge_checks(set, table, n, workspace.len(), one.len(), zero.len()) {
+    match judge_checks(
+        set,
+        table,
+        n,
+        workspace.len(),
+        one.len(),
+        zero.len(),
+        kept.len(),
+    ) {
         Verdict::Refused(x) => refuse(x),
         Verdict::Passed => {
             let order = graded_order();
-            judge_points(set, table, n, &order, workspace, one, zero)
+            judge_points(set, table, n, &order, workspace, one, zero, kept)
         }
     }
 }
@@ -90,13 +102,15 @@ fn judge_checks(
     workspace: usize,
     one: usize,
     zero: usize,
+    kept: usize,
 ) -> Verdict
-    ensures { λ r. ⌜ r ≡ verdict (judgeChecks (now (set .entry)) (now (table .entry)) n workspace one zero) ⌝ }
+    ensures { λ r. ⌜ r ≡ verdict (judgeChecks (now (set .entry)) (now (table .entry)) n workspace one zero kept) ⌝ }
 {
     let v = check_filter_lengths(Verdict::Passed, set, table);
     let v = check_length(v, workspace, WORKSPACE);
     let v = check_length(v, one, POINTS);
     let v = check_length(v, zero, POINTS);
+    let v = check_length(v, kept, POINTS);
     let v = check_taps(v, n);
     check_filter_masks(v, set, table, n)
 }
@@ -124,19 +138,33 @@ fn judge_points(
     workspace: &mut [u64],
     one: &mut [u8],
     zero: &mut [u8],
+    kept: &mut [u8],
 ) -> JudgeAnswer
-    requires { ⌜ (verdict (judgeChecks (now set) (now table) n (length (now workspace)) (length (now one)) (length (now zero))) ≡ Passed) × Graded (now order) ⌝ }
-    ensures { λ r. ⌜ JudgeContract (judgeOutcome (now (order .entry)) (now (set .entry)) (now (table .entry)) n (length (now (workspace .entry))) (length (now (one .entry))) (length (now (zero .entry))))
-        (now (workspace .entry)) (now (workspace .exit)) (pair (now (one .entry)) (now (zero .entry))) (pair (now (one .exit)) (now (zero .exit))) r ⌝ }
+    requires { ⌜ (verdict (judgeChecks (now set) (now table) n (length (now workspace)) (length (now one)) (length (now zero)) (length (now kept))) ≡ Passed) × Graded (now order) ⌝ }
+    ensures { λ r. ⌜ JudgeContract (judgeOutcome (now (order .entry)) (now (set .entry)) (now (table .entry)) n (length (now (workspace .entry))) (length (now (one .entry))) (length (now (zero .entry))) (length (now (kept .entry))))
+        (now (workspace .entry)) (now (workspace .exit)) (pair (now (one .entry)) (now (zero .entry))) (pair (now (one .exit)) (now (zero .exit))) (now (kept .entry)) (now (kept .exit)) r ⌝ }
 {
     let part_one = part_mask(set, table, 1);
     let part_zero = part_mask(set, table, 0);
+    let mut pivots = [0u16; COLUMNS];
+    let mut points = [0u16; COLUMNS];
     fill_rows(workspace, order, n);
-    let found = all_ranks(workspace, order, set, &part_one, &part_zero, n);
+    let found = all_ranks(
+        workspace,
+        order,
+        set,
+        &part_one,
+        &part_zero,
+        n,
+        &mut pivots,
+        &mut points,
+    );
     let ranks = found.ranks;
     let degrees = found_degrees(ranks, n);
     let k = degrees.reported;
     let here = ranks[k];
+    let columns = column_count(order, n, k as u16);
+    mark_below(&pivots, &points, found.kept, columns, kept);
     write_witnesses(
         workspace,
         order,

@@ -3,6 +3,8 @@ pub mod AnyOrder
 pub mod Combining
 pub mod Following
 pub mod FullRank
+pub mod KeptMask
+pub mod KeptPoints
 pub mod Product
 pub mod RankOf
 pub mod Ranked

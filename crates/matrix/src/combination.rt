@@ -55,25 +55,25 @@ fn take_combining(
     keep(ws, pivots, kept)
 }
 
-// The points of `part` are taken as in an elimination. The combination of each kept row stands at its place, which is
+// The points of `mask` are taken as in an elimination. The combination of each kept row stands at its place, which is
 // that of its point. The result is the number of kept rows. A kernel for the crates above: the rows from the kept ones to
-// 512, those in the places of points of `part` that are not kept, and the pivots and places past the kept ones are scratch.
+// 512, those in the places of points of `mask` that are not kept, and the pivots and places past the kept ones are scratch.
 pub fn eliminate_combining(
     ws: &mut [u64],
     pivots: &mut [u16],
     places: &mut [u16],
-    part: &[u8],
+    mask: &[u8],
     columns: usize,
 ) -> usize
-    requires { ⌜ (length (now ws) ≡ 8192) × (length (now pivots) ≡ 512) × (length (now places) ≡ 512) × (length (now part) ≡ 512) ⌝ }
-    ensures { λ r. ⌜ Combines (unpacked (now (ws .entry))) (unpacked (now (ws .exit))) columns (points (now (part .entry))) r (now (places .exit)) ⌝ }
-    ensures { λ r. ⌜ r ≤ length (points (now (part .entry))) ⌝ }
-    ensures { λ r. ⌜ Pivots (now (pivots .exit)) (unpacked (now (ws .exit))) r × OutsidePlaces (now (places .exit)) r (now (part .entry)) ⌝ }
+    requires { ⌜ (length (now ws) ≡ 8192) × (length (now pivots) ≡ 512) × (length (now places) ≡ 512) × (length (now mask) ≡ 512) ⌝ }
+    ensures { λ r. ⌜ Combines (unpacked (now (ws .entry))) (unpacked (now (ws .exit))) columns (points (now (mask .entry))) r (now (places .exit)) ⌝ }
+    ensures { λ r. ⌜ r ≤ length (points (now (mask .entry))) ⌝ }
+    ensures { λ r. ⌜ Pivots (now (pivots .exit)) (unpacked (now (ws .exit))) r × OutsidePlaces (now (places .exit)) r (now (mask .entry)) ⌝ }
 {
     let mut kept: usize = 0;
     let mut q: usize = 0;
     while q < POINTS {
-        if part[q] == 1 {
+        if mask[q] == 1 {
             kept = take_combining(ws, pivots, places, kept, Point(q as u16), columns);
         }
         q += 1;

@@ -2,11 +2,12 @@
 ghost use mathlib.Core.Path.{_≡_};
 ghost use Prim.Native.Nat.{_+_, _≤_, _<_};
 ghost use lib.ListN.{length};
-ghost use Rattle.cube.specs.Mask.{points};
+ghost use Rattle.cube.specs.Mask.{points as pointsOf};
 ghost use Rattle.gf2.specs.Steps.{rowOf, Pivots};
 ghost use Rattle.packed.specs.Packed.{unpacked, zeros};
 ghost use Rattle.gf2.specs.Prefix.{AtMost};
 ghost use Rattle.matrix.specs.Workspace.{TakesAll, EliminatesAll};
+ghost use Rattle.matrix.specs.Kept.{KeptAt};
 use cube::POINTS;
 use cube::Point;
 use packed::COLUMNS;
@@ -34,24 +35,28 @@ fn take_tallied(
 }
 
 // The points of `mask` are taken, each with the row in its place. The result is the number of kept rows; `pivots` has the
-// pivot of each, and `tally`, which holds zeros at entry, the additions by pivot. A kernel for the crates above: the rows
-// from the kept ones to 512, and the pivots past the kept ones, are scratch.
+// pivot of each, `points` its point, and `tally`, which holds zeros at entry, the additions by pivot. A kernel for the
+// crates above: the rows from the kept ones to 512, and the pivots and points past the kept ones, are scratch.
 pub fn eliminate_tallied(
     ws: &mut [u64],
     pivots: &mut [u16],
+    points: &mut [u16],
     tally: &mut [u32],
     mask: &[u8],
 ) -> usize
-    requires { ⌜ (length (now ws) ≡ 8192) × (length (now pivots) ≡ 512) × (now tally ≡ zeros 512) × (length (now mask) ≡ 512) ⌝ }
-    ensures { λ r. ⌜ EliminatesAll (unpacked (now (ws .entry))) (unpacked (now (ws .exit))) (points (now (mask .entry))) r (now (tally .exit)) ⌝ }
+    requires { ⌜ (length (now ws) ≡ 8192) × (length (now pivots) ≡ 512) × (length (now points) ≡ 512) × (now tally ≡ zeros 512) × (length (now mask) ≡ 512) ⌝ }
+    ensures { λ r. ⌜ EliminatesAll (unpacked (now (ws .entry))) (unpacked (now (ws .exit))) (pointsOf (now (mask .entry))) r (now (tally .exit)) ⌝ }
     ensures { λ r. ⌜ (r ≤ 512) × AtMost 262144 (now (tally .exit)) ⌝ }
     ensures { λ r. ⌜ Pivots (now (pivots .exit)) (unpacked (now (ws .exit))) r ⌝ }
+    ensures { λ r. ⌜ KeptAt (unpacked (now (ws .entry))) 512 (pointsOf (now (mask .entry))) r (now (points .exit)) ⌝ }
 {
     let mut kept: usize = 0;
     let mut a: usize = 0;
     while a < POINTS {
         if mask[a] == 1 {
-            kept = take_tallied(ws, pivots, tally, kept, Point(a as u16));
+            let point = Point(a as u16);
+            points[kept] = point.0;
+            kept = take_tallied(ws, pivots, tally, kept, point);
         }
         a += 1;
     }

@@ -34,22 +34,22 @@ value-of : {A : Type 0} (x y : A) → _≡_ {A = Outcome A} (accepted x) (accept
 value-of x y e = ap (λ (o : Outcome _). leftBy o x (λ z. z)) e
 
 module _ (n : ℕ) (s f : List ℕ) (a : JudgeAccepts graded n s f (judged graded n s f)) where
-  module _ {m p q : ℕ} (l : m ≡ 8192) (l₁ : p ≡ 512) (l₀ : q ≡ 512) {ws ws′ : List ℕ} {w w′ : Sides (List ℕ)} {r : JudgeAnswer}
-      (h : JudgeContract (judgeOutcome graded s f n m p q) ws ws′ w w′ r)
+  module _ {m p q i : ℕ} (l : m ≡ 8192) (l₁ : p ≡ 512) (l₀ : q ≡ 512) (l₂ : i ≡ 512) {ws ws′ : List ℕ} {w w′ : Sides (List ℕ)} {kept kept′ : List ℕ} {r : JudgeAnswer}
+      (h : JudgeContract (judgeOutcome graded s f n m p q i) ws ws′ w w′ kept kept′ r)
     where
       -- what is answered is what Judge accepts
-      answered : found (r .finding) (r .ranks) w′ ≡ accepted (judged graded n s f)
-      answered = h .answers ∙ ap₂ (λ i j. judgeOutcome graded s f n i j q) l l₁ ∙ ap (judgeOutcome graded s f n 8192 512) l₀ ∙ a
+      answered : found (r .finding) (r .ranks) w′ kept′ ≡ accepted (judged graded n s f)
+      answered = h .answers ∙ ap₂ (λ x y. judgeOutcome graded s f n x y q i) l l₁ ∙ ap₂ (judgeOutcome graded s f n 8192 512) l₀ l₂ ∙ a
 
       -- the judgement
       pub judge-found : (x : Report) → r .finding ≡ Judged x
-          → judgementOf x (r .ranks) w′ ≡ judged graded n s f
-      judge-found x e = value-of _ (judged graded n s f) (ap (λ y. found y (r .ranks) w′) (sym e) ∙ answered)
+          → judgementOf x (r .ranks) w′ kept′ ≡ judged graded n s f
+      judge-found x e = value-of _ (judged graded n s f) (ap (λ y. found y (r .ranks) w′ kept′) (sym e) ∙ answered)
 
       -- no refusal
       pub judge-refuses : (x : Refusal) → r .finding ≡ Refused x → ⊥
       judge-refuses x e =
-          let o = ap (λ y. found y (r .ranks) w′) (sym e) ∙ answered in
+          let o = ap (λ y. found y (r .ranks) w′ kept′) (sym e) ∙ answered in
           let z : _≡_ {A = ℕ} 0 1 = ap (λ y. leftBy y 0 (λ j. 1)) o in
           omega arith
 

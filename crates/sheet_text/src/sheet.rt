@@ -55,7 +55,16 @@ fn filter_sheet(text: &mut [u8], n: usize, set: &[u8], table: &[u8]) -> usize
     let mut workspace = [0u64; WORKSPACE];
     let mut one = [0u8; POINTS];
     let mut zero = [0u8; POINTS];
-    let answer = judge(set, table, n, &mut workspace, &mut one, &mut zero);
+    let mut kept = [0u8; POINTS];
+    let answer = judge(
+        set,
+        table,
+        n,
+        &mut workspace,
+        &mut one,
+        &mut zero,
+        &mut kept,
+    );
     let finding = answer.finding;
     let ranks = answer.ranks;
     match finding {

@@ -11,15 +11,16 @@ ghost use Rattle.cube.specs.Cube.{size as sizeOf};
 ghost use Rattle.order.specs.Order.{Graded, columns as columnsOf};
 ghost use Rattle.gf2.specs.Vector.{chosen};
 ghost use Rattle.gf2.specs.Steps.{Pivots};
-ghost use Rattle.packed.specs.Packed.{unpack, unpacked, zeros};
+ghost use Rattle.packed.specs.Packed.{unpack, unpacked};
 ghost use Rattle.point_rows.specs.Workspace.{exponents, RowsFrom};
 ghost use Rattle.immunity.specs.Witness.{newPoint, witnessAt};
 ghost use Rattle.witness.specs.NewRow.{FindsNew};
 use cube::POINTS;
 use cube::Point;
 use cube::size;
-use matrix::elimination::eliminate_with;
+use matrix::elimination::eliminate;
 use matrix::elimination::take_row;
+use matrix::kept::clear_bytes;
 use order::columns::column_count;
 use order::columns::is_column;
 use order::exponent_at;
@@ -27,17 +28,6 @@ use packed::COLUMNS;
 use packed::single::entry_at;
 use packed::solve::solve_last;
 use point_rows::row_of;
-
-// Every byte becomes zero.
-fn clear_bytes(bytes: &mut [u8])
-    ensures { λ _. ⌜ now (bytes .exit) ≡ zeros (length (now (bytes .entry))) ⌝ }
-{
-    let mut i: usize = 0;
-    while i < bytes.len() {
-        bytes[i] = 0;
-        i += 1;
-    }
-}
 
 // The exponents of the columns where `x` is one are marked.
 fn mark_columns(order: &[u16], n: usize, d: u16, x: &[u64; 8], bytes: &mut [u8])
@@ -80,7 +70,7 @@ fn keep_new(ws: &mut [u64], pivots: &mut [u16], set: &[u8], kept: usize, columns
 }
 
 // The witness against the points of `part` of the set at degree `d` is written; zeros where every row of the set is a sum
-// of rows of the part.
+// of rows of the part. The points that are kept of it are not needed: `points` is scratch.
 fn write_witness(
     ws: &mut [u64],
     order: &[u16],
@@ -98,9 +88,10 @@ fn write_witness(
 {
     clear_bytes(witness);
     let mut pivots = [0u16; COLUMNS];
+    let mut points = [0u16; COLUMNS];
     let most = d as u16;
     let columns = column_count(order, n, most);
-    let t = eliminate_with(ws, &mut pivots, part, columns);
+    let t = eliminate(ws, &mut pivots, &mut points, part, columns);
     let kept = t.kept;
     if kept < COLUMNS {
         if kept < keep_new(ws, &mut pivots, set, kept, columns) {

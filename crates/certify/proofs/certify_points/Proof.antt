@@ -1,16 +1,49 @@
--- Elimination finds the set's rank, that with combinations the part's (found): where they differ it refuses, else what is written is the certificate.
+-- The sums over the part's kept points tell whether the ranks are equal (kept_sums): where they differ Certify refuses, else what is written is the certificate.
 use borrow.Author.Needs.{needs}
-use mathlib.Core.Path.{_≡_, refl, sym, ap, _∙_}
+use mathlib.Core.Path.{_≡_, refl, sym, ap, _∙_, subst}
+use mathlib.Core.Bool.{true}
+use mathlib.Core.List.{List·Memᴰ}
 use Prim.Native.Nat.{ℕ, _≤_}
-use native.Mathlib.Omega.{arith}
-use lib.ListN.{length, length-replicate}
+use borrow.Author.Tests.{not-true, not-false}
+use lib.Dec.{eqb}
+use lib.ListN.{length}
+use Rattle.cube.specs.NumberLists.{Inside}
+use Rattle.cube.specs.Cube.{size}
+use Rattle.cube.specs.Mask.{points}
+use Rattle.cube.proofs.Masks.{points-inside}
+use Rattle.gf2.proofs.Each.{each-member}
 use Rattle.packed.specs.Packed.{unpacked, zeros}
 use Rattle.packed.proofs.Rows.{length-rows}
+use Rattle.filter.specs.Part.{part}
 use Rattle.filter.proofs.Filters.{few-taps}
-use Rattle.certify.proofs.Compared.{Passes, few-degrees, certify-passed}
-use Rattle.certify.proofs.Certifying.{Found, found, ranks-differ, accepts}
+use Rattle.point_rows.specs.Workspace.{exponents, RowsFrom}
+use Rattle.point_rows.proofs.Stored.{filled-rows, stays-rows}
+use Rattle.matrix.specs.Matrix.{rankOf}
+use Rattle.immunity.proofs.PartPoints.{part-among}
+use Rattle.certify.proofs.Compared.{Passes, certify-passed}
+use Rattle.certify.proofs.Certifying.{ranks-differ, accepts}
 use Rattle.certify.proofs.certify_points.Statement.{statement}
 use Rattle.certify.proofs.certify_points.Tie as tie
+
+-- the start, from the mask of the part
+abbrev start : tie.After-part-mask → tie.Start
+start q = q .before .before .before .before .before .before
+
+-- the mask of the part, from where the rows are filled
+abbrev mask-of : tie.After-fill-rows → tie.After-part-mask
+mask-of f = f .before .before
+
+-- where the rows are filled, from the kept points
+abbrev filled-of : tie.After-part-kept → tie.After-fill-rows
+filled-of p = p .before .before .before .before .before
+
+-- the kept points, from the sums
+abbrev kept-of : tie.After-kept-sums → tie.After-part-kept
+kept-of x = x .before .before .before .before .before .before
+
+-- the sums, from where the ranks differ, and from where they do not
+abbrev sums-of : tie.After-slice-known5 → tie.After-kept-sums
+sums-of c = c .before .before
 
 -- what the checks show
 shown : (c : tie.Start) → let a = c .args in Passes (a .n) (a .set .now) (a .table .now) (a .side) (a .d) (length (a .workspace .now)) (length (a .certificate .now))
@@ -20,139 +53,124 @@ shown c = let a = c .args in certify-passed (a .n) (a .set .now) (a .table .now)
 small : (c : tie.Start) → c .args .n ≤ 9
 small c = few-taps _ _ _ (shown c .filter)
 
+-- the points of the set are points of n taps
+inside-set : (c : tie.Start) → Inside (size (c .args .n)) (points (c .args .set .now))
+inside-set c = points-inside _ _ (shown c .filter .set-formed)
+
 part-mask-requires : tie.Need-part-mask-requires
 part-mask-requires c κs = let h = shown (c .before .before .before .before .before) .filter in (h .set-long, h .table-long)
 
-cast-column-count : tie.Need-cast-column-count
-cast-column-count c = omega (arith, few-degrees (shown (c .before .before .before .before .before .before)))
-
-column-count-requires : tie.Need-column-count-requires
-column-count-requires c κs = let s = c .before .before .before .before .before .before in (s .pre .1, small s)
-
 fill-rows-requires : tie.Need-fill-rows-requires
-fill-rows-requires c κs = let s = c .before .before .before .before .before .before .before .before in (shown s .workspace-long, s .pre .1, small s)
-
-eliminate-requires : tie.Need-eliminate-requires
-eliminate-requires c κs =
-    let f = c .before .before .before in
-    let s = f .before .before .before .before .before .before .before .before .before in
-    (f .fill-rows .kept .0 ∙ shown s .workspace-long, shown s .filter .set-long)
+fill-rows-requires c κs = let s = start (c .before) in (shown s .workspace-long, s .pre .1, small s)
 
 -- the mask of the part has 512 bytes
-long-part : (c : tie.After-part-mask) → length (c .part-mask .result) ≡ 512
-long-part c = search needs
+long-part : (q : tie.After-part-mask) → length (q .part-mask .result) ≡ 512
+long-part q = search needs
+
+-- its points are points of the set
+among : (q : tie.After-part-mask) → let a = start q .args in (p : ℕ) → List·Memᴰ p (points (q .part-mask .result)) → List·Memᴰ p (points (a .set .now))
+among q p m =
+    let a = start q .args in
+    each-member (λ x. List·Memᴰ x (points (a .set .now))) (part-among (a .side) (a .set .now) (a .table .now)) (subst (List·Memᴰ p) (q .part-mask .ensures) m)
+
+-- the rows of points are in their places
+rows : (f : tie.After-fill-rows) → let a = start (mask-of f) .args in RowsFrom (exponents (a .order .now) (a .n)) (a .n) (unpacked (f .fill-rows .last .0)) 0
+rows f =
+    let s = start (mask-of f) in
+    let a = s .args in
+    rw (f .fill-rows .ensures) (filled-rows (exponents (a .order .now) (a .n)) (a .n) (small s) (unpacked (a .workspace .now)) (length-rows 1024 (a .workspace .now)))
 
 -- the workspace keeps its length
-filled-length : (c : tie.After-eliminate) → length (c .eliminate .last .0) ≡ 8192
-filled-length c =
+filled-length : (f : tie.After-fill-rows) → length (f .fill-rows .last .0) ≡ 8192
+filled-length f = f .fill-rows .kept .0 ∙ shown (start (mask-of f)) .workspace-long
+
+part-kept-requires : tie.Need-part-kept-requires
+part-kept-requires c κs =
     let f = c .before .before .before .before in
-    c .eliminate .kept .0 ∙ f .fill-rows .kept .0 ∙ shown (f .before .before .before .before .before .before .before .before .before) .workspace-long
+    let q = mask-of f in
+    let s = start q in
+    (filled-length f, long-part q, s .pre .1, small s, shown s .low, λ p m. inside-set s p (among q p m), rows f)
 
-kept-length : (c : tie.After-eliminate-combining) → length (c .eliminate-combining .last .0) ≡ 8192
-kept-length c = c .eliminate-combining .kept .0 ∙ filled-length (c .before .before .before .before .before .before .before)
+kept-sums-requires : tie.Need-kept-sums-requires
+kept-sums-requires c κs =
+    let p = c .before .before .before .before .before in
+    let f = filled-of p in
+    let q = mask-of f in
+    let s = start q in
+    let a = s .args in (
+      p .part-kept .kept .0 ∙ filled-length f,
+      shown s .filter .set-long,
+      long-part q,
+      search needs,
+      s .pre .1,
+      small s,
+      shown s .low,
+      inside-set s,
+      among q,
+      stays-rows (exponents (a .order .now) (a .n)) (a .n) (unpacked (f .fill-rows .last .0)) (unpacked (p .part-kept .last .0)) (p .part-kept .ensures .1) (rows f),
+      p .part-kept .ensures .0,
+    )
 
-eliminate-combining-requires : tie.Need-eliminate-combining-requires
-eliminate-combining-requires c κs = (filled-length (c .before .before .before .before .before .before), length-replicate {A = ℕ} 512 0, length-replicate {A = ℕ} 512 0, long-part (c .before .before .before .before .before .before .before .before .before .before .before .before .before))
+-- and to the sums
+sums-length : (x : tie.After-kept-sums) → length (x .kept-sums .last .0) ≡ length (start (mask-of (filled-of (kept-of x))) .args .workspace .now)
+sums-length x = let p = kept-of x in let f = filled-of p in x .kept-sums .kept .0 ∙ p .part-kept .kept .0 ∙ f .fill-rows .kept .0
 
--- what is found of the ranks, and what the certificate will be
-finds : (c : tie.After-eliminate-combining) → let e = c .before .before .before .before .before .before .before in let k = e .before .before .before .before .before .before in let q = k .before in let a = q .before .before .before .before .before .before .args in
-    Found (a .order .now) (a .n) (a .side) (a .d) (a .set .now) (a .table .now) (q .part-mask .result) (e .eliminate .result .kept) (c .eliminate-combining .result) (k .column-count .result)
-    (unpacked (c .eliminate-combining .last .0)) (c .eliminate-combining .last .1 .1 .0)
-finds c =
-    let e = c .before .before .before .before .before .before .before in
-    let f = e .before .before .before .before in
-    let k = f .before .before in
-    let q = k .before in
-    let s = q .before .before .before .before .before .before in
-    let a = s .args in
-    found (s .pre .1) (shown s .filter) (a .side) (a .d) (shown s .low) (q .part-mask .result) (q .part-mask .ensures) (k .column-count .ensures)
-    (unpacked (a .workspace .now)) (unpacked (f .fill-rows .last .0)) (unpacked (e .eliminate .last .0)) (length-rows 1024 (a .workspace .now))
-    (f .fill-rows .ensures) (e .eliminate .ensures .0)
-    (unpacked (c .eliminate-combining .last .0)) (c .eliminate-combining .result) (c .eliminate-combining .last .1 .1 .0) (c .eliminate-combining .ensures .0)
-    (length-rows 1024 (e .eliminate .last .0)) (e .eliminate .ensures .1 .0) (length-rows 1024 (c .eliminate-combining .last .0)) (long-part q) (c .eliminate-combining .ensures .1 .0)
+-- the sums tell whether the ranks of the set and of the side's part are equal
+compared : (x : tie.After-kept-sums) → let a = start (mask-of (filled-of (kept-of x))) .args in
+    eqb (rankOf (a .order .now) (a .n) (a .d) (points (a .set .now))) (rankOf (a .order .now) (a .n) (a .d) (part (a .side) (a .set .now) (a .table .now))) ≡ x .kept-sums .result
+compared x =
+    let q = mask-of (filled-of (kept-of x)) in
+    let a = start q .args in
+    ap (λ ps. eqb (rankOf (a .order .now) (a .n) (a .d) (points (a .set .now))) (rankOf (a .order .now) (a .n) (a .d) ps)) (sym (q .part-mask .ensures)) ∙ sym (x .kept-sums .ensures .0)
 
 returns : tie.Need-returns
 returns c =
     let z = c .before .before in
     let t = z .before .before in
-    let x = t .before .before .before .before .before in
-    let s = x .before .before .before .before .before .before .before .before .before .before .before .before .before .before .before .before .before .before .before .before in
+    let x = sums-of (t .before) in
+    let q = mask-of (filled-of (kept-of x)) in
+    let s = start q in
     let a = s .args in
-    let r = finds x in
     ranks-differ (a .order .now) (a .set .now) (a .table .now) (a .n) (a .side) (a .d) (a .workspace .now) (a .certificate .now) (s .pre .0)
-    (z .clear .ensures ∙ ap zeros (kept-length x ∙ sym (shown s .workspace-long))) (λ i. t .if1 .taken (r .part-rank ∙ i ∙ sym (r .set-rank))) refl
-
--- the pivots and the places keep their lengths
-long-pivots : (c : tie.After-eliminate-combining) → length (c .eliminate-combining .last .1 .0) ≡ 512
-long-pivots c = c .eliminate-combining .kept .1 .0 ∙ length-replicate {A = ℕ} 512 0
-
-long-places : (c : tie.After-eliminate-combining) → length (c .eliminate-combining .last .1 .1 .0) ≡ 512
-long-places c = c .eliminate-combining .kept .1 .1 .0 ∙ length-replicate {A = ℕ} 512 0
-
-combine-outside-requires : tie.Need-combine-outside-requires
-combine-outside-requires c κs =
-    let x = c .before .before .before .before .before .before .before .before .before in
-    let q = x .before .before .before .before .before .before .before .before .before .before .before .before .before .before in
-    let h = shown (q .before .before .before .before .before .before) .filter in
-    (kept-length x, long-pivots x, long-places x, h .set-long, long-part q, x .eliminate-combining .ensures .1 .0, x .eliminate-combining .ensures .1 .1 .0, x .eliminate-combining .ensures .1 .1 .1)
-
-slice-aggregate-write-certificate : tie.Need-slice-aggregate-write-certificate
-slice-aggregate-write-certificate c = sym (long-part (c .before .before .before .before .before .before .before .before .before .before .before .before .before .before .before .before .before .before .before .before .before .before .before .before .before .before .before .before))
+    (z .clear .ensures ∙ ap zeros (sums-length x)) (compared x ∙ not-true (x .kept-sums .result) (t .if1 .taken)) refl
 
 write-certificate-requires : tie.Need-write-certificate-requires
 write-certificate-requires c κs =
-    let y = c .before .before .before .before .before in
-    let x = y .before .before .before .before .before .before .before .before .before .before in
-    let q = x .before .before .before .before .before .before .before .before .before .before .before .before .before .before in
-    let s = q .before .before .before .before .before .before in
-    (y .combine-outside .kept .0 ∙ kept-length x, shown s .filter .set-long, long-part q, shown s .certificate-long)
-
--- the workspace keeps its length to the end
-last-length : (c : tie.After-clear2) → length (c .before .before .before .before .before .before .before .before .before .before .combine-outside .last .0) ≡ length (c .before .before .before .before .before .before .before .before .before .before .before .before .before .before .before .before .before .before .before .before .before .before .before .before .before .before .before .before .before .before .before .before .before .before .before .before .before .before .before .before .args .workspace .now)
-last-length c =
-    let y = c .before .before .before .before .before .before .before .before .before .before in
-    let x = y .before .before .before .before .before .before .before .before .before .before in
-    y .combine-outside .kept .0 ∙ kept-length x ∙ sym (shown (x .before .before .before .before .before .before .before .before .before .before .before .before .before .before .before .before .before .before .before .before) .workspace-long)
-
-same-length-2 : tie.Need-same-length-2
-same-length-2 c = let z = c .before .before in z .clear2 .kept .0 ∙ last-length z
+    let x = sums-of (c .before .before .before .before) in
+    let q = mask-of (filled-of (kept-of x)) in
+    let s = start q in
+    (sums-length x ∙ shown s .workspace-long, shown s .filter .set-long, long-part q, shown s .certificate-long)
 
 returns-2 : tie.Need-returns-2
 returns-2 c =
     let z = c .before .before in
     let w = z .before .before .before .before in
-    let y = w .before .before .before .before .before .before in
-    let t = y .before .before .before .before .before in
-    let x = t .before .before .before .before .before in
-    let s = x .before .before .before .before .before .before .before .before .before .before .before .before .before .before .before .before .before .before .before .before in
+    let e = w .before .before .before .before in
+    let x = sums-of (e .before) in
+    let q = mask-of (filled-of (kept-of x)) in
+    let s = start q in
     let a = s .args in
-    let r = finds x in
-    accepts (a .order .now) (a .set .now) (a .table .now) (a .n) (a .side) (a .d) (a .workspace .now) (a .certificate .now) (s .pre .0) (z .clear2 .ensures ∙ ap zeros (last-length z))
-    (sym (r .part-rank) ∙ t .if1 .left ∙ r .set-rank) (w .write-certificate .ensures ∙ r .written-is (unpacked (y .combine-outside .last .0)) (y .combine-outside .ensures))
+    let equal : x .kept-sums .result ≡ true = not-false _ (e .if1 .left) in
+    accepts (a .order .now) (a .set .now) (a .table .now) (a .n) (a .side) (a .d) (a .workspace .now) (a .certificate .now) (s .pre .0) (z .clear2 .ensures ∙ ap zeros (sums-length x))
+    (compared x ∙ equal) (w .write-certificate .ensures ∙ x .kept-sums .ensures .1 equal (a .table .now) (a .side) (q .part-mask .ensures))
 
 pub certify-points-spec : {M : Type 1} → statement M
 certify-points-spec =
     tie.close
     (tie.spec
     part-mask-requires
-    cast-column-count
-    column-count-requires
     fill-rows-requires
-    eliminate-requires
+    (λ c. search needs)
+    part-kept-requires
     (λ c. search needs)
     (λ c. search needs)
-    (λ c. search needs)
-    eliminate-combining-requires
+    kept-sums-requires
     (λ c κs. search needs)
     (λ c. search needs)
     returns
     (λ c. search needs)
-    (λ c. search needs)
-    (λ c. search needs)
-    combine-outside-requires
-    slice-aggregate-write-certificate
     write-certificate-requires
     (λ c κs. search needs)
-    same-length-2
+    (λ c. search needs)
     (λ c. search needs)
     returns-2)

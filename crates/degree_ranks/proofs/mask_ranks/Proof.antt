@@ -1,20 +1,27 @@
--- One elimination serves every degree: its pivots below a number of columns count the rank there, and its tally there sums to the additions.
+-- One elimination serves every degree: its pivots below a number of columns count the rank there, its tally there sums to the additions, and the points of these pivots are those kept there.
 use borrow.Author.Needs.{needs}
-use mathlib.Core.Path.{_≡_, refl, sym, ap, _∙_}
+use mathlib.Core.Path.{_≡_, refl, sym, ap, _∙_, subst}
 use mathlib.Core.List.{List}
 use Prim.Native.Nat.{ℕ, _+_, _*_, _-_, _≤_, _<_}
 use native.Mathlib.Omega.{arith}
 use lib.ListN.{length, getD, take, length-replicate}
-use Rattle.cube.specs.NumberLists.{below}
+use Rattle.cube.specs.NumberLists.{below, Inside}
+use Rattle.cube.specs.Mask.{points}
 use Rattle.packed.specs.Packed.{unpacked, zeros}
 use Rattle.gf2.specs.Prefix.{countTo, sumTo}
 use Rattle.packed.proofs.Rows.{length-rows, length-row}
+use Rattle.matrix.proofs.Combining.{points-before}
 use Rattle.matrix.proofs.Tallied.{tallied-kept}
+use Rattle.matrix.proofs.KeptPoints.{Wide, kept-at-below, kept-at-small}
 use Rattle.immunity.specs.Judgement.{summed}
 use Rattle.degree_ranks.specs.Cut.{upTo}
 use Rattle.degree_ranks.proofs.Degrees.{degreesFrom, degrees-all, degrees-here, degrees-none, ValuesTo, values-none, values-next, values-all, up-to-here, up-to-past, up-to-same, summed-same}
 use Rattle.degree_ranks.proofs.mask_ranks.Statement.{statement}
 use Rattle.degree_ranks.proofs.mask_ranks.Tie as tie
+
+-- the rows have 512 columns
+wide : (ws : List ℕ) → length ws ≡ 8192 → Wide (unpacked ws)
+wide ws l j h = length-row ws j l (rw (length-rows 1024 ws) at h)
 
 -- the number of pivots below the columns of a degree
 abbrev counted : List ℕ → ℕ → List ℕ → ℕ → ℕ
@@ -36,31 +43,31 @@ unfolding summed
 added-all t n d m l h = let step = ap (summed t) (degrees-none n d l) in omega (arith, step, h)
 
 abbrev Inv-loop : tie.InvT-loop
-Inv-loop ws mask n columns pivots tally kept ranks₀ additions₀ d₀ ranks additions d =
+Inv-loop ws mask n pivots points columns tally kept ranks₀ additions₀ d₀ ranks additions d =
     (d ≤ n + 1) × (additions ≤ d * 134217728) × ValuesTo 0 (upTo n (counted columns kept pivots)) d ranks
     × (additions + summed (tallied columns tally) (degreesFrom n d) ≡ summed (tallied columns tally) (below (n + 1)))
 
 abbrev μ-loop : tie.MeasureT-loop
-μ-loop ws mask n columns pivots tally kept ranks₀ additions₀ d₀ ranks additions d = n + 1 - d
+μ-loop ws mask n pivots points columns tally kept ranks₀ additions₀ d₀ ranks additions d = n + 1 - d
 
 -- the start, from where the rows were taken
 abbrev start : tie.After-eliminate-tallied Inv-loop μ-loop → tie.Start Inv-loop μ-loop
-start e = e .before .before .before .before .before .before
+start e = e .before .before .before .before .before .before .before .before .before
 
 -- where the rows were taken, from the loop
 abbrev taken : tie.At-loop Inv-loop μ-loop → tie.After-eliminate-tallied Inv-loop μ-loop
-taken l = l .before .before .before .before .before
+taken l = l .before .before .before .before .before .before .before .before
 
 eliminate-tallied-requires : tie.Need-eliminate-tallied-requires Inv-loop μ-loop
 unfolding zeros
 eliminate-tallied-requires c κs =
-    let s = c .before .before .before .before .before in
-    (s .pre .0, length-replicate {A = ℕ} 512 0, refl, s .pre .1)
+    let s = c .before .before .before .before .before .before .before .before in
+    (s .pre .0, s .pre .4, s .pre .5, refl, s .pre .1)
 
 loop-holds : tie.Need-loop-holds Inv-loop μ-loop
 loop-holds c =
-    let e = c .before .before .before .before in
-    let step = ap (summed (tallied (start e .args .t3) (e .eliminate-tallied .last .1 .1 .0))) (degrees-all (start e .args .n)) in
+    let e = c .before .before .before .before .before .before .before in
+    let step = ap (summed (tallied (start e .args .t3) (e .eliminate-tallied .last .1 .1 .1 .0))) (degrees-all (start e .args .n)) in
     (omega arith, omega arith, values-none _ _, omega (arith, step))
 
 -- there are at most 512 columns at a degree
@@ -72,14 +79,15 @@ cast-count c = omega (arith, few-columns (c .before))
 
 -- the pivots are 512 numbers
 long-pivots : (e : tie.After-eliminate-tallied Inv-loop μ-loop) → length (e .eliminate-tallied .last .1 .0) ≡ 512
-long-pivots e = e .eliminate-tallied .kept .1 .0 ∙ length-replicate {A = ℕ} 512 0
+long-pivots e = e .eliminate-tallied .kept .1 .0 ∙ start e .pre .4
 
--- so are those of the tally
-long-tally : (e : tie.After-eliminate-tallied Inv-loop μ-loop) → length (e .eliminate-tallied .last .1 .1 .0) ≡ 512
-long-tally e = e .eliminate-tallied .kept .1 .1 .0 ∙ length-replicate {A = ℕ} 512 0
+-- so are the points
+long-points : (e : tie.After-eliminate-tallied Inv-loop μ-loop) → length (e .eliminate-tallied .last .1 .1 .0) ≡ 512
+long-points e = e .eliminate-tallied .kept .1 .1 .0 ∙ start e .pre .5
 
-slice-aggregate-count-below : tie.Need-slice-aggregate-count-below Inv-loop μ-loop
-slice-aggregate-count-below c = sym (long-pivots (taken (c .before .before)))
+-- and those of the tally
+long-tally : (e : tie.After-eliminate-tallied Inv-loop μ-loop) → length (e .eliminate-tallied .last .1 .1 .1 .0) ≡ 512
+long-tally e = e .eliminate-tallied .kept .1 .1 .1 .0 ∙ length-replicate {A = ℕ} 512 0
 
 count-below-requires : tie.Need-count-below-requires Inv-loop μ-loop
 count-below-requires c κs = let e = taken (c .before .before) in (long-pivots e, e .eliminate-tallied .ensures .1 .0 .0)
@@ -126,16 +134,27 @@ returns c =
     let a = s .args in
     let ws = e .eliminate-tallied .last .0 in
     let pivots = e .eliminate-tallied .last .1 .0 in
-    let tally = e .eliminate-tallied .last .1 .1 .0 in
+    let qs = e .eliminate-tallied .last .1 .1 .0 in
+    let tally = e .eliminate-tallied .last .1 .1 .1 .0 in
     let kept = e .eliminate-tallied .result in
     let h = e .eliminate-tallied .ensures in
-    let long : length ws ≡ 8192 = e .eliminate-tallied .kept .0 ∙ s .pre .0 in (
+    let few = h .1 .0 .0 in
+    let t = unpacked (a .ws .now) in
+    let ps = points (a .mask .now) in
+    let long : length ws ≡ 8192 = e .eliminate-tallied .kept .0 ∙ s .pre .0 in
+    let inside : Inside 512 ps = subst (λ m. Inside m ps) (s .pre .1) (points-before (a .mask .now) (length (a .mask .now))) in (
       values-all _ _ (l .loop .d) (l .loop .ranks) (λ k low high. up-to-past (a .n) (counted (a .t3) kept pivots) k (omega (arith, c .loop-test .left))) (l .loop .inv .2)
-          ∙ up-to-same (a .n) _ _ (λ d _. tallied-kept (unpacked (a .ws .now)) _ (unpacked ws) kept tally (h .0) pivots (long-pivots e) (length-rows 1024 ws)
-          (λ j g. length-row ws j long (rw (length-rows 1024 ws) at g)) (h .1 .0 .0) (h .1 .1) (getD (a .t3) d 0)),
+          ∙ up-to-same (a .n) _ _ (λ d _. tallied-kept t _ (unpacked ws) kept tally (h .0) pivots (long-pivots e) (length-rows 1024 ws) (wide ws long) few (h .1 .1 .0) (getD (a .t3) d 0)),
       (
         added-all _ (a .n) (l .loop .d) _ (c .loop-test .left) (l .loop .inv .3) ∙ summed-same (a .n) _ _ (λ d _. sym (h .0 .additions (getD (a .t3) d 0))),
-        (omega (arith, l .loop .inv .1, s .pre .3), h .0 .stays),
+        (
+          (omega (arith, l .loop .inv .1, s .pre .3), h .0 .stays),
+          (
+            (few, kept-at-small t 512 ps kept qs (h .1 .1 .1) (omega (arith, few, long-points e)) inside),
+            kept-at-below t (unpacked ws) ps kept tally pivots (h .0) (wide ws long) (omega (arith, few, length-rows 1024 ws)) (h .1 .1 .0) qs (h .1 .1 .1) (omega (arith, few, long-pivots e))
+                (wide (a .ws .now) (s .pre .0)) (length-rows 1024 (a .ws .now)) inside,
+          ),
+        ),
       ),
     )
 
@@ -146,13 +165,11 @@ mask-ranks-spec =
     Inv-loop
     μ-loop
     (λ c. search needs)
-    (λ c. search needs)
     eliminate-tallied-requires
     loop-holds
     (λ c. omega arith)
     (λ c. omega arith)
     cast-count
-    slice-aggregate-count-below
     count-below-requires
     cast-ranks
     (λ c. omega arith)
@@ -164,4 +181,6 @@ mask-ranks-spec =
     (λ c. omega arith)
     loop-again
     (λ c. taken (c .before) .eliminate-tallied .kept .0)
+    (λ c. taken (c .before) .eliminate-tallied .kept .1 .0)
+    (λ c. taken (c .before) .eliminate-tallied .kept .1 .1 .0)
     returns)

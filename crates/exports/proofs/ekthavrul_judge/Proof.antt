@@ -33,46 +33,47 @@ mark-named : (j : Judgement) → length (j .ranks) ≡ 10 → {m : ℕ} → j .m
 mark-named j long is e =
     is ∙ ap some (sym (ap (λ ns. getD ns 35 0) e ∙ behind-ranks (j .ranks) (j .degree) (j .side) (j .additions) (j .degrees) (j .mark) long 5 ∙ ap degreeNumber is))
 
-module _ {o : Outcome Judgement} {ws ws′ : List ℕ} {w w′ : Sides (List ℕ)} {answer : JudgeAnswer} (h : JudgeContract o ws ws′ w w′ answer)
+module _ {o : Outcome Judgement} {ws ws′ : List ℕ} {w w′ : Sides (List ℕ)} {m m′ : List ℕ} {answer : JudgeAnswer} (h : JudgeContract o ws ws′ w w′ m m′ answer)
     {x : Finding} (e : answer .finding ≡ x) where
   -- what the finding states is the outcome
-  states : found x (answer .ranks) w′ ≡ o
-  states = ap (λ y. found y (answer .ranks) w′) (sym e) ∙ h .answers
+  states : found x (answer .ranks) w′ m′ ≡ o
+  states = ap (λ y. found y (answer .ranks) w′ m′) (sym e) ∙ h .answers
 
   -- the status and the report of what the finding states
   left-by : ((j : Judgement) → o ≡ accepted j → length (j .ranks) ≡ 10) → ((j : Judgement) → o ≡ accepted j → (b : Bool) (d : ℕ) → sideIf b (j .degrees) ≡ some d → d ≤ 9)
-      → {ns ns′ : List ℕ} {r : ℕ} → r ≡ statusOf (found x (answer .ranks) w′) → ns′ ≡ leftBy (found x (answer .ranks) w′) ns reportOf
-      → JudgeStatus o ws ws′ w w′ ns ns′ r
+      → {ns ns′ : List ℕ} {r : ℕ} → r ≡ statusOf (found x (answer .ranks) w′ m′) → ns′ ≡ leftBy (found x (answer .ranks) w′ m′) ns reportOf
+      → JudgeStatus o ws ws′ w w′ m m′ ns ns′ r
   left-by long small {ns} status report = record {
     status = status ∙ ap statusOf states;
     workspace = h .leaves;
     witnesses = h .leaves-witnesses;
+    kept = h .leaves-kept;
     report = report ∙ ap (λ y. leftBy y ns reportOf) states;
-    reported = λ j a. let (y, _, same) = found-judged x (answer .ranks) w′ j (states ∙ a) in (y .degree, sym (ap (λ (i : Judgement). i .degree) same));
+    reported = λ j a. let (y, _, same) = found-judged x (answer .ranks) w′ m′ j (states ∙ a) in (y .degree, sym (ap (λ (i : Judgement). i .degree) same));
     none-named = λ j a. none-named j (long j a) (small j a) (report ∙ ap (λ y. leftBy y ns reportOf) (states ∙ a));
-    mark-named = λ j a. let (_, _, same) = found-judged x (answer .ranks) w′ j (states ∙ a) in
+    mark-named = λ j a. let (_, _, same) = found-judged x (answer .ranks) w′ m′ j (states ∙ a) in
         mark-named j (long j a) (sym (ap (λ (i : Judgement). i .mark) same)) (report ∙ ap (λ y. leftBy y ns reportOf) (states ∙ a));
   }
 
 report-of-requires : tie.Need-report-of-requires
 report-of-requires c κs =
     let x = c .before .before in
-    let j = x .before .before .before .before .before .before .before .before in
+    let j = x .before .before .before .before .before .before .before .before .before .before in
     let is = sym (states (j .judge .ensures) (x .finding2 .given .1)) in
-    let small = side-degree-small _ _ _ _ _ _ _ _ is in
-    (degree-small _ _ _ _ _ _ _ _ is _ refl, mark-small _ _ _ _ _ _ _ _ is _ refl, number-most _ (small true), number-most _ (small false))
+    let small = side-degree-small _ _ _ _ _ _ _ _ _ is in
+    (degree-small _ _ _ _ _ _ _ _ _ is _ refl, mark-small _ _ _ _ _ _ _ _ _ is _ refl, number-most _ (small true), number-most _ (small false))
 
 returns : tie.Need-returns
 returns c =
     let x = c .before .before in
-    let j = x .before .before .before .before .before .before .before .before in
-    left-by (j .judge .ensures) (x .finding .given .1) (ranks-long _ _ _ _ _ _ _) (side-degree-small _ _ _ _ _ _ _) (c .number .ensures) refl
+    let j = x .before .before .before .before .before .before .before .before .before .before in
+    left-by (j .judge .ensures) (x .finding .given .1) (ranks-long _ _ _ _ _ _ _ _) (side-degree-small _ _ _ _ _ _ _ _) (c .number .ensures) refl
 
 returns-2 : tie.Need-returns-2
 returns-2 c =
     let x = c .before .before .before in
-    let j = x .before .before .before .before .before .before .before .before in
-    left-by (j .judge .ensures) (x .finding2 .given .1) (ranks-long _ _ _ _ _ _ _) (side-degree-small _ _ _ _ _ _ _) refl (c .report-of .ensures)
+    let j = x .before .before .before .before .before .before .before .before .before .before in
+    left-by (j .judge .ensures) (x .finding2 .given .1) (ranks-long _ _ _ _ _ _ _ _) (side-degree-small _ _ _ _ _ _ _ _) refl (c .report-of .ensures)
 
 pub ekthavrul-judge-spec : {M : Type 1} → statement M
 ekthavrul-judge-spec =
@@ -86,7 +87,9 @@ ekthavrul-judge-spec =
     (λ c. search needs)
     (λ c. search needs)
     (λ c. search needs)
+    (λ c. search needs)
     returns
+    (λ c. search needs)
     (λ c. search needs)
     (λ c. search needs)
     (λ c. search needs)

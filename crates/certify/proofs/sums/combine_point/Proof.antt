@@ -1,11 +1,19 @@
 use borrow.Author.Needs.{needs}
-use mathlib.Core.Path.{sym, ap, ap₂, _∙_, subst}
+use mathlib.Core.Path.{_≡_, sym, ap, ap₂, _∙_, subst}
+use mathlib.Core.Bool.{not}
+use Prim.Native.Nat.{ℕ}
 use native.Mathlib.Nat.{le-refl}
 use native.Mathlib.Omega.{arith}
-use lib.ListN.{take}
+use native.Mathlib.Decide.{decLt}
+use borrow.Author.Tests.{lt-ltb, le-ltb}
+use lib.Dec.{ltb}
+use lib.ListN.{length, take}
+use Rattle.gf2.specs.Vector.{Row}
+use Rattle.gf2.specs.Elimination.{pivot, isZero}
 use Rattle.gf2.specs.Steps.{Places, reducedBoth}
 use Rattle.packed.specs.Packed.{unpacked}
-use Rattle.gf2.proofs.Steps.{pivots-same}
+use Rattle.packed.proofs.Rows.{length-row}
+use Rattle.gf2.proofs.Steps.{pivot-zero, pivot-one, pivots-same}
 use Rattle.matrix.specs.Combination.{followed}
 use Rattle.matrix.proofs.Following.{start-kept}
 use Rattle.certify.proofs.sums.combine_point.Statement.{statement}
@@ -28,13 +36,23 @@ reduce-both-requires c κs =
       subst (Places (s .args .places .now) k) (sym (c .row-of .ensures)) (s .pre .6),
     )
 
+-- something is left of a row just if its pivot is a column
+left-test : (v : Row) (p : ℕ) → length v ≡ 512 → p ≡ pivot v → ltb p 512 ≡ not (isZero v)
+left-test v p l e = elim (decLt (pivot v) 512) [
+  | yes h ↦ rw (pivot-one v (omega arith)) (lt-ltb p 512 (omega arith))
+  | no h ↦ rw (pivot-zero v (omega arith)) (le-ltb p 512 (omega arith))
+]
+
 returns : tie.Need-returns
 unfolding followed
 returns c =
-    let r = c .before .before in
+    let r = c .before .before .before .before in
     let y = r .before .before .before .before .before in
-    let s = y .before .before .before .before .before .args in
-    r .reduce-both .ensures ∙ ap₂ (λ j t. reducedBoth (s .kept) (s .kept) j (s .places .now) t) (r .before .row-of .ensures) (y .move-row .ensures)
+    let s = y .before .before .before .before .before in
+    let a = s .args in (
+      r .reduce-both .ensures ∙ ap₂ (λ j t. reducedBoth (a .kept) (a .kept) j (a .places .now) t) (r .before .row-of .ensures) (y .move-row .ensures),
+      left-test _ (c .pivot .result) (length-row (r .reduce-both .last .0) (a .kept) (r .reduce-both .kept .0 ∙ y .move-row .kept .0 ∙ s .pre .0) (omega (arith, s .pre .3))) (c .pivot .ensures),
+    )
 
 pub combine-point-spec : {M : Type 1} → statement M
 combine-point-spec =
@@ -43,5 +61,6 @@ combine-point-spec =
     (λ c κs. search needs)
     (λ c κs. search needs)
     reduce-both-requires
+    (λ c κs. search needs)
     (λ c. search needs)
     returns)

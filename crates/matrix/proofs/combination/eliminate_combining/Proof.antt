@@ -31,24 +31,24 @@ moved : (t : List Row) (columns : ℕ) (qs : List ℕ) {ws ws′ pivots pivots�
 moved t columns qs e f g h s = rw (e, f, g, h) s
 
 abbrev Inv-loop : tie.InvT-loop
-Inv-loop ws₀ pivots₀ places₀ part columns kept₀ q₀ ws pivots places kept q =
+Inv-loop ws₀ pivots₀ places₀ mask columns kept₀ q₀ ws pivots places kept q =
     (q ≤ 512) × (kept ≤ q) × (length ws ≡ 8192) × (length pivots ≡ 512) × (length places ≡ 512)
-    × State (unpacked ws₀) columns (pointsTo part q) ws pivots places kept
+    × State (unpacked ws₀) columns (pointsTo mask q) ws pivots places kept
 
 abbrev μ-loop : tie.MeasureT-loop
-μ-loop ws₀ pivots₀ places₀ part columns kept₀ q₀ ws pivots places kept q = 512 - q
+μ-loop ws₀ pivots₀ places₀ mask columns kept₀ q₀ ws pivots places kept q = 512 - q
 
 loop-holds : tie.Need-loop-holds Inv-loop μ-loop
 loop-holds c =
     let s = c .before .before .before .before in
-    let none = combines-none (unpacked (s .args .ws .now)) (s .args .columns) (s .args .part .now) (s .args .places .now) in
+    let none = combines-none (unpacked (s .args .ws .now)) (s .args .columns) (s .args .mask .now) (s .args .places .now) in
     (omega arith, omega arith, s .pre .0, s .pre .1, s .pre .2, (λ j h. absurd (omega arith), none))
 
 -- the places of the points taken are not that of the next
 apart : (l : tie.At-loop Inv-loop μ-loop) → l .loop .q ≤ 512 → Places (l .loop .places) (l .loop .kept) (512 + l .loop .q)
 apart l h =
     let s = l .before .before .before .before .before in
-    let b = s .args .part .now in
+    let b = s .args .mask .now in
     let q = l .loop .q in
     places-apart (unpacked (s .args .ws .now)) (unpacked (l .loop .ws)) (s .args .columns) (pointsTo b q) (l .loop .kept) (l .loop .places) (omega arith) (l .loop .inv .5 .1)
     (λ a m. omega (arith, points-before b q a m)) q (not-before b q)
@@ -64,7 +64,7 @@ loop-again c =
     let l = c .before .before .before in
     let s = l .before .before .before .before .before in
     let t = unpacked (s .args .ws .now) in
-    let b = s .args .part .now in
+    let b = s .args .mask .now in
     let m = s .args .columns in
     let q = l .loop .q in
     let i = l .loop .inv in
@@ -98,7 +98,7 @@ returns : tie.Need-returns Inv-loop μ-loop
 returns c =
     let l = c .before in
     let s = l .before .before .before .before .before in
-    let b = s .args .part .now in
+    let b = s .args .mask .now in
     let t = unpacked (s .args .ws .now) in
     let t′ = unpacked (l .loop .ws) in
     let k = l .loop .kept in

@@ -30,32 +30,32 @@ small : (c : tie.Start) → c .args .n ≤ 9
 small c = few-taps _ _ _ (filter c)
 
 -- what Judge found is the judgement
-judgement : (c : tie.After-finding2) → let j = c .before .before .before .before .before .before in let s = j .before .before .before .before .before .before .before in let v = c .finding2 .given .0 .0 in
-    judgementOf v (j .judge .result .ranks) (pair (j .judge .last .1 .1 .1 .1 .0) (j .judge .last .1 .1 .1 .1 .1 .0))
+judgement : (c : tie.After-finding2) → let j = c .before .before .before .before .before .before .before in let s = j .before .before .before .before .before .before .before .before in let v = c .finding2 .given .0 .0 in
+    judgementOf v (j .judge .result .ranks) (pair (j .judge .last .1 .1 .1 .1 .0) (j .judge .last .1 .1 .1 .1 .1 .0)) (j .judge .last .1 .1 .1 .1 .1 .1 .0)
     ≡ judged graded (s .args .n) (s .args .set .now) (s .args .table .now)
 judgement c =
-    let j = c .before .before .before .before .before .before in
-    let s = j .before .before .before .before .before .before .before in
-    judge-found (s .args .n) (s .args .set .now) (s .args .table .now) (s .pre .1) (length-replicate {A = ℕ} 8192 0) (length-replicate {A = ℕ} 512 0) (length-replicate {A = ℕ} 512 0)
+    let j = c .before .before .before .before .before .before .before in
+    let s = j .before .before .before .before .before .before .before .before in
+    judge-found (s .args .n) (s .args .set .now) (s .args .table .now) (s .pre .1) (length-replicate {A = ℕ} 8192 0) (length-replicate {A = ℕ} 512 0) (length-replicate {A = ℕ} 512 0) (length-replicate {A = ℕ} 512 0)
     (j .judge .ensures) (c .finding2 .given .0 .0) (c .finding2 .given .1)
 
 first-line-requires : tie.Need-first-line-requires
 first-line-requires c κs =
-    let s = c .before .before .before .before .before .before .before .before .before .before .before .before .before .before .before .before in
+    let s = c .before .before .before .before .before .before .before .before .before .before .before .before .before .before .before .before .before .before in
     omega (arith, s .pre .0)
 
 rank-lines-requires : tie.Need-rank-lines-requires
 rank-lines-requires c κs =
     let f = c .before .before .before in
-    let s = f .before .before .before .before .before .before .before .before .before .before .before .before .before .before .before .before .before in
+    let s = f .before .before .before .before .before .before .before .before .before .before .before .before .before .before .before .before .before .before .before in
     (omega (arith, f .first-line .ensures .1, f .first-line .kept .0, s .pre .0), small s)
 
 report-line-requires : tie.Need-report-line-requires
 report-line-requires c κs =
     let r = c .before .before .before .before .before in
     let f = r .before .before .before .before in
-    let j = f .before .before .before .before .before .before .before .before .before .before in
-    let s = j .before .before .before .before .before .before .before in
+    let j = f .before .before .before .before .before .before .before .before .before .before .before in
+    let s = j .before .before .before .before .before .before .before .before in
     (omega (arith, r .rank-lines .ensures .1, r .rank-lines .kept .0, f .first-line .ensures .1, f .first-line .kept .0, s .pre .0), j .judge .kept .1 .1 .1 .1 .0 ∙ length-replicate {A = ℕ} 512 0, j .judge .kept .1 .1 .1 .1 .1 .0 ∙ length-replicate {A = ℕ} 512 0)
 
 sides-line-requires : tie.Need-sides-line-requires
@@ -63,7 +63,7 @@ sides-line-requires c κs =
     let d = c .before .before .before in
     let r = d .before .before .before .before .before .before in
     let f = r .before .before .before .before in
-    let s = f .before .before .before .before .before .before .before .before .before .before .before .before .before .before .before .before .before in
+    let s = f .before .before .before .before .before .before .before .before .before .before .before .before .before .before .before .before .before .before .before in
     omega (arith, d .report-line .ensures .1, d .report-line .kept .0, r .rank-lines .ensures .1, r .rank-lines .kept .0, f .first-line .ensures .1, f .first-line .kept .0, s .pre .0)
 
 sum-sections-requires : tie.Need-sum-sections-requires
@@ -73,7 +73,7 @@ sum-sections-requires c κs =
     let r = d .before .before .before .before .before .before in
     let f = r .before .before .before .before in
     let g = f .before .before .before .before in
-    let s = g .before .before .before .before .before .before .before .before .before .before .before .before .before in (
+    let s = g .before .before .before .before .before .before .before .before .before .before .before .before .before .before .before in (
       omega (arith, i .sides-line .ensures .1, i .sides-line .kept .0, d .report-line .ensures .1, d .report-line .kept .0, r .rank-lines .ensures .1, r .rank-lines .kept .0, f .first-line .ensures .1, f .first-line .kept .0, s .pre .0),
       filter s .set-long,
       filter s .table-long,
@@ -87,15 +87,15 @@ additions-line-requires c κs =
     let d = i .before .before .before .before in
     let r = d .before .before .before .before .before .before in
     let f = r .before .before .before .before in
-    let s = f .before .before .before .before .before .before .before .before .before .before .before .before .before .before .before .before .before in
+    let s = f .before .before .before .before .before .before .before .before .before .before .before .before .before .before .before .before .before .before .before in
     omega (arith, u .sum-sections .ensures .1, u .sum-sections .kept .0, i .sides-line .ensures .1, i .sides-line .kept .0, d .report-line .ensures .1, d .report-line .kept .0, r .rank-lines .ensures .1, r .rank-lines .kept .0, f .first-line .ensures .1, f .first-line .kept .0, s .pre .0)
 
 returns : tie.Need-returns
 returns c =
     let g = c .before .before .before .before .before .before in
-    let j = g .before .before .before .before .before .before in
-    let s = j .before .before .before .before .before .before .before in
-    absurd (judge-refuses (s .args .n) (s .args .set .now) (s .args .table .now) (s .pre .1) (length-replicate {A = ℕ} 8192 0) (length-replicate {A = ℕ} 512 0) (length-replicate {A = ℕ} 512 0)
+    let j = g .before .before .before .before .before .before .before in
+    let s = j .before .before .before .before .before .before .before .before in
+    absurd (judge-refuses (s .args .n) (s .args .set .now) (s .args .table .now) (s .pre .1) (length-replicate {A = ℕ} 8192 0) (length-replicate {A = ℕ} 512 0) (length-replicate {A = ℕ} 512 0) (length-replicate {A = ℕ} 512 0)
     (j .judge .ensures) _ (g .finding .given .1))
 
 returns-2 : tie.Need-returns-2
@@ -108,7 +108,7 @@ returns-2 c =
     let r = d .before .before .before .before .before .before in
     let f = r .before .before .before .before in
     let g = f .before .before .before .before in
-    let s = g .before .before .before .before .before .before .before .before .before .before .before .before .before in
+    let s = g .before .before .before .before .before .before .before .before .before .before .before .before .before .before .before in
     let mark = some (g .finding2 .given .0 .0 .mark) in
     let first : Appends (firstLine (s .args .n) (length (points (s .args .set .now))) mark) (s .args .text .now) (f .first-line .last .0) 0 (f .first-line .result) =
     appends-same (ap (λ c. firstLine (s .args .n) c mark) (f .before .count .ensures .0)) (f .first-line .ensures .0) in
@@ -122,6 +122,7 @@ pub filter-sheet-spec : {M : Type 1} → statement M
 filter-sheet-spec =
     tie.close
     (tie.spec
+    (λ c. search needs)
     (λ c. search needs)
     (λ c. search needs)
     (λ c. search needs)
