@@ -4,11 +4,13 @@
  *
  * n is the number of taps. A point is a number below 2 to the power n, read in base 2 as x1 (highest bit) to xn.
  * An exponent is such a number too: its ones name the variables of a monomial.
- * A mask is EKTHAVRUL_POINTS bytes: byte a is 0 or 1 for a below 2 to the power n, and 0 from there on. A set, a table
- * and the coefficients of a polynomial are masks; a byte of the coefficients stands for an exponent, one of the others
- * for a point.
+ * A mask is EKTHAVRUL_POINTS bytes: byte a is 0 or 1 for a below 2 to the power n, and 0 from there on. A set, a table,
+ * the kept points and the coefficients of a polynomial are masks; a byte of the coefficients stands for an exponent, one
+ * of the others for a point.
  * S is the set and f the table. Part 1 is the points of S where f is 1, part 0 those where it is 0; side 1 has part 1,
  * and side 0 has part 0.
+ * A point of a mask is kept at degree d if its row at d is no sum of the rows of smaller points of the mask. There are as
+ * many kept points as the rank at d, and they alone have that rank.
  *
  * A slice is a pointer and its length in elements; the pointer is never null. What is written to, a slice, a number or
  * the report, overlaps with nothing else that is lent. Every length may be passed: a wrong one is refused. The memory is
@@ -113,12 +115,13 @@ uint8_t ekthavrul_convert(uint8_t *bytes, size_t length, size_t n);
 uint8_t ekthavrul_degree(const uint8_t *coefficients, size_t length, size_t n, uint32_t *degree);
 
 /*
- * Rank: `*rank` becomes the rank of the rows of the mask's points at degree d, and `*additions` the count of additions
- * of rows.
- * Refusals: LENGTH (mask, workspace), TAPS, BYTES, DEGREE.
+ * Rank: `*rank` becomes the rank of the rows of the mask's points at degree d, `*additions` the count of additions of
+ * rows, and `kept` the mask of the points of the mask that are kept at d, whatever it held. A refusal leaves `kept` as it
+ * was, like all that is lent.
+ * Refusals: LENGTH (mask, workspace, kept), TAPS, BYTES, DEGREE.
  */
 uint8_t ekthavrul_rank(const uint8_t *mask, size_t mask_length, size_t n, size_t d, uint64_t *workspace,
-                       size_t workspace_length, size_t *rank, uint32_t *additions);
+                       size_t workspace_length, uint8_t *kept, size_t kept_length, size_t *rank, uint32_t *additions);
 
 /*
  * Judge: the restricted immunity of the filter. The report becomes: for each degree d up to n the ranks of S, of part 1
@@ -128,18 +131,19 @@ uint8_t ekthavrul_rank(const uint8_t *mask, size_t mask_length, size_t n, size_t
  * is so exactly where the part is all of S; as the mark the first d at which twice the rank of S exceeds the number of
  * points of S: there always is one, and it is at most n. The degree is the smaller of the sides' own that exist, and it
  * is never over the mark. `one` and `zero` become the coefficients of the witness of their side, a polynomial of the
- * reported degree that is zero on the part and not on all of S, or zeros if the side does not differ at that degree. A
- * refusal leaves the report as it was, like all that is lent.
- * Refusals: LENGTH (set, table, workspace, one, zero), TAPS, BYTES (set, then table), EMPTY_SET.
+ * reported degree that is zero on the part and not on all of S, or zeros if the side does not differ at that degree.
+ * `kept` becomes the mask of the points of S that are kept at the reported degree, whatever it held. A refusal leaves the
+ * report and `kept` as they were, like all that is lent.
+ * Refusals: LENGTH (set, table, workspace, one, zero, kept), TAPS, BYTES (set, then table), EMPTY_SET.
  */
 uint8_t ekthavrul_judge(const uint8_t *set, size_t set_length, const uint8_t *table, size_t table_length, size_t n,
                         uint64_t *workspace, size_t workspace_length, uint8_t *one, size_t one_length, uint8_t *zero,
-                        size_t zero_length, uint32_t report[EKTHAVRUL_REPORT]);
+                        size_t zero_length, uint8_t *kept, size_t kept_length, uint32_t report[EKTHAVRUL_REPORT]);
 
 /*
  * Certify: why no polynomial up to degree d is zero on the side's part and not on all of S: for each point a of S
- * outside the part, bit q % 64 of certificate[8 * a + q / 64] becomes 1 exactly for the kept points q of the part whose rows at degree d sum
- * to the row of a. All other bits become 0.
+ * outside the part, bit q % 64 of certificate[8 * a + q / 64] becomes 1 exactly for the points q of the part that are
+ * kept at d and whose rows at d sum to the row of a. All other bits become 0.
  * Refusals: LENGTH (set, table, workspace, certificate), TAPS, BYTES (set, then table), EMPTY_SET, DEGREE, SIDE,
  * RANKS_DIFFER.
  */

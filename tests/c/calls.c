@@ -9,7 +9,7 @@ enum { POINTS = EKTHAVRUL_POINTS };
 static const uint8_t printed_file[] = {0x02, 0x04, 0x00, 0x01, 0x01, 0x01, 0x01, 0x03};
 
 static uint64_t workspace[EKTHAVRUL_WORKSPACE], certificate[EKTHAVRUL_CERTIFICATE];
-static uint8_t set[POINTS], table[POINTS], one[POINTS], zero[POINTS];
+static uint8_t set[POINTS], table[POINTS], one[POINTS], zero[POINTS], kept[POINTS];
 static int faults;
 
 /* Counts a fault, and says which, unless the condition holds. */
@@ -25,6 +25,25 @@ static void choose(uint8_t *mask, const int *points) {
     memset(mask, 0, POINTS);
     for (; *points >= 0; points++)
         mask[*points] = 1;
+}
+
+/* Every byte of the mask of the kept points becomes one that no mask has. */
+static void spoil_kept(void) {
+    memset(kept, 77, sizeof kept);
+}
+
+/* Whether the mask of the kept points marks the points of the list, which ends in -1. */
+static int kept_are(const int *points) {
+    uint8_t wanted[POINTS];
+    choose(wanted, points);
+    return memcmp(kept, wanted, sizeof wanted) == 0;
+}
+
+/* Whether the mask of the kept points is as it was spoiled. */
+static int kept_stays(void) {
+    uint8_t wanted[POINTS];
+    memset(wanted, 77, sizeof wanted);
+    return memcmp(kept, wanted, sizeof wanted) == 0;
 }
 
 /* Read of the file of the printed sheet leaves its filter in the set and the table. */
@@ -69,23 +88,37 @@ static void check_normal_form(void) {
     expect(ekthavrul_degree(bytes, POINTS, 1, &degree) == EKTHAVRUL_ZERO_POLYNOMIAL && degree == 3, "Degree, case 3");
 }
 
-/* Rank: case 4, and the set of case 5 at degree 1. */
+/* Rank of the mask of two taps at the degree, with so many bytes for the kept points, spoiled before; its status. */
+static uint8_t rank_mask(const uint8_t *mask, size_t d, size_t length, size_t *rank, uint32_t *additions) {
+    spoil_kept();
+    return ekthavrul_rank(mask, POINTS, 2, d, workspace, EKTHAVRUL_WORKSPACE, kept, length, rank, additions);
+}
+
+/* Rank: case 4, and the set of case 5 at degree 1, where the last point is not kept. A refusal leaves all as it was. */
 static void check_rank(void) {
     uint8_t none[POINTS] = {0};
     size_t rank = 77;
     uint32_t additions = 77;
-    expect(ekthavrul_rank(none, POINTS, 2, 1, workspace, EKTHAVRUL_WORKSPACE, &rank, &additions) == 0, "Rank, case 4");
-    expect(rank == 0 && additions == 0, "the rank of no points");
-    expect(ekthavrul_rank(set, POINTS, 2, 1, workspace, EKTHAVRUL_WORKSPACE, &rank, &additions) == 0 && rank == 3,
-           "Rank, case 5");
-    expect(ekthavrul_rank(set, POINTS, 2, 3, workspace, EKTHAVRUL_WORKSPACE, &rank, &additions) == EKTHAVRUL_DEGREE,
-           "Rank refuses a degree");
+    expect(rank_mask(none, 1, POINTS, &rank, &additions) == 0, "Rank, case 4");
+    expect(rank == 0 && additions == 0 && kept_are((int[]){-1}), "the rank of no points");
+    expect(rank_mask(set, 1, POINTS, &rank, &additions) == 0 && rank == 3, "Rank, case 5");
+    expect(kept_are((int[]){0, 1, 2, -1}), "the kept points of case 5");
+    expect(rank_mask(set, 3, POINTS, &rank, &additions) == EKTHAVRUL_DEGREE, "Rank refuses a degree");
+    expect(rank == 3 && kept_stays(), "the kept points after Rank refused a degree");
+    expect(rank_mask(set, 3, POINTS - 1, &rank, &additions) == EKTHAVRUL_LENGTH, "Rank refuses a length");
+    expect(rank == 3 && kept_stays(), "the kept points after Rank refused a length");
 }
 
-/* Judge of the filter of n taps; its status. */
-static uint8_t judge(size_t n, uint32_t *report) {
+/* Judge of the filter of n taps, with so many bytes for the kept points, spoiled before; its status. */
+static uint8_t judge_kept(size_t n, size_t length, uint32_t *report) {
+    spoil_kept();
     return ekthavrul_judge(set, POINTS, table, POINTS, n, workspace, EKTHAVRUL_WORKSPACE, one, POINTS, zero, POINTS,
-                           report);
+                           kept, length, report);
+}
+
+/* The same with as many as there must be. */
+static uint8_t judge(size_t n, uint32_t *report) {
+    return judge_kept(n, POINTS, report);
 }
 
 /* The report of case 5, lent with a number behind it, which stays; a refusal leaves all of it as it was. */
@@ -98,7 +131,10 @@ static void check_report(void) {
     memset(report, 77, sizeof report);
     memcpy(entry, report, sizeof entry);
     expect(judge(10, report) == EKTHAVRUL_TAPS && memcmp(report, entry, sizeof report) == 0, "Judge refuses taps");
+    expect(kept_stays(), "the kept points after Judge refused taps");
+    expect(judge_kept(10, POINTS - 1, report) == EKTHAVRUL_LENGTH && kept_stays(), "Judge refuses a length");
     expect(judge(2, report) == 0 && memcmp(report, wanted, sizeof wanted) == 0, "Judge, case 5");
+    expect(kept_are((int[]){0, 1, 2, -1}), "the kept points of case 5 at its degree");
     expect(report[EKTHAVRUL_REPORT] == entry[EKTHAVRUL_REPORT], "the number behind the report");
     expect(last[EKTHAVRUL_RANK_SET_AT] == 4 && last[EKTHAVRUL_RANK_ONE_AT] == 1 && last[EKTHAVRUL_RANK_ZERO_AT] == 3,
            "the ranks at degree 2");
@@ -170,7 +206,7 @@ static void check_own_degrees(const int *points, uint32_t of_one, uint32_t of_ze
            what);
 }
 
-/* Judge, case 11, the six points of weight 2 in four taps: their rank at degree 1 is 4, so that the mark is 1. */
+/* Judge, case 11, the six points of weight 2 in four taps, of rank 4 at degree 1: the mark is 1, and four are kept. */
 static void check_mark(void) {
     uint32_t report[EKTHAVRUL_REPORT];
     choose(set, (int[]){3, 5, 6, 9, 10, 12, -1});
@@ -178,6 +214,7 @@ static void check_mark(void) {
     expect(judge(4, report) == 0 && report[EKTHAVRUL_RANKS_OF_DEGREE + EKTHAVRUL_RANK_SET_AT] == 4 &&
                report[EKTHAVRUL_MARK_AT] == 1 && report[EKTHAVRUL_DEGREE_AT] == 1,
            "Judge, case 11");
+    expect(kept_are((int[]){3, 5, 6, 9, -1}), "the kept points of case 11 at its degree");
 }
 
 /* Makes every check; the status is 0 if there was no fault. */
