@@ -7,6 +7,7 @@ pub mod faults; // faults.rs: calls that are wrong, for tests
 pub mod filter; // filter.rs: a filter as it is lent, and its checks
 pub mod filter_file; // filter_file.rs: Read, Write, and the file of a triple
 pub mod judgement; // judgement.rs: Judge, Certify, Hand over
+pub mod kept; // kept.rs: the kept points of an elimination
 pub mod known; // known.rs: filters whose sides' own degrees are known, for tests
 pub mod known_mark; // known_mark.rs: sets whose marks are known, for tests
 pub mod lent; // lent.rs: buffers that are lent, for tests

@@ -80,6 +80,11 @@ impl Span {
         self.members.iter().flatten().count()
     }
 
+    // The highest places with a one of the vectors in the span that are not zero, rising.
+    pub fn highest_places(&self) -> impl DoubleEndedIterator<Item = usize> {
+        (0..self.members.len()).filter(|i| self.members[*i].is_some())
+    }
+
     // The names of the kept vectors that sum to this one, if it is in the span.
     pub fn express(&self, vector: Bits) -> Option<Bits> {
         let (rest, names) = self.reduce(vector);
