@@ -4,7 +4,7 @@ use independent::judgement::Judgement;
 use independent::rank::Ranking;
 
 unsafe extern "C" {
-    fn c_rank(mask: *const u8, n: usize, d: usize, workspace: *mut u64, additions: *mut u32) -> usize;
+    fn c_rank(mask: *const u8, n: usize, d: usize, workspace: *mut u64, kept: *mut u8, additions: *mut u32) -> usize;
     fn c_judge(
         set: *const u8,
         table: *const u8,
@@ -12,6 +12,7 @@ unsafe extern "C" {
         workspace: *mut u64,
         one: *mut u8,
         zero: *mut u8,
+        kept: *mut u8,
         ranks: *mut [[usize; 3]; 10],
         degree: *mut usize,
         side: *mut u8,
@@ -34,24 +35,24 @@ unsafe extern "C" {
 }
 
 // Rank.
-pub const RANK: Option<Rank> = Some(|mask, n, d, workspace| {
-    assert_eq!((mask.len(), workspace.len()), (512, 8192));
+pub const RANK: Option<Rank> = Some(|mask, n, d, workspace, kept| {
+    assert_eq!((mask.len(), workspace.len(), kept.len()), (512, 8192, 512));
     let mut additions = 0;
-    let rank = unsafe { c_rank(mask.as_ptr(), n, d, workspace.as_mut_ptr(), &mut additions) };
+    let rank = unsafe { c_rank(mask.as_ptr(), n, d, workspace.as_mut_ptr(), kept.as_mut_ptr(), &mut additions) };
     Ranking { rank, additions }
 });
 
 // Judge.
-pub const JUDGE: Option<Judge> = Some(|filter, workspace, one, zero| {
+pub const JUDGE: Option<Judge> = Some(|filter, workspace, one, zero, kept| {
     assert_eq!((filter.set.len(), filter.table.len()), (512, 512));
-    assert_eq!((workspace.len(), one.len(), zero.len()), (8192, 512, 512));
-    let (set, table, workspace) = (filter.set.as_ptr(), filter.table.as_ptr(), workspace.as_mut_ptr());
-    let (one, zero) = (one.as_mut_ptr(), zero.as_mut_ptr());
+    assert_eq!((workspace.len(), one.len(), zero.len(), kept.len()), (8192, 512, 512, 512));
+    let (n, set, table) = (filter.n, filter.set.as_ptr(), filter.table.as_ptr());
+    let (workspace, one, zero, kept) = (workspace.as_mut_ptr(), one.as_mut_ptr(), zero.as_mut_ptr(), kept.as_mut_ptr());
     let mut answer =
         Judgement { ranks: [[0; 3]; 10], degree: 0, side: 0, additions: 0, own_degrees: [None; 2], mark: 0 };
     let mut numbers = [0; 2];
     let Judgement { ranks, degree, side, additions, mark, .. } = &mut answer;
-    unsafe { c_judge(set, table, filter.n, workspace, one, zero, ranks, degree, side, additions, &mut numbers, mark) };
+    unsafe { c_judge(set, table, n, workspace, one, zero, kept, ranks, degree, side, additions, &mut numbers, mark) };
     answer.own_degrees = numbers.map(|d| (d < answer.ranks.len()).then_some(d));
     answer
 });

@@ -9,29 +9,39 @@ use independent::rank::Ranking;
 use std::hint::black_box;
 use std::time::Duration;
 
-pub type Rank = fn(&[u8], usize, usize, &mut [u64]) -> Ranking;
-pub type Judge = fn(Filter, &mut [u64], &mut [u8], &mut [u8]) -> Judgement;
+pub type Rank = fn(&[u8], usize, usize, &mut [u64], &mut [u8]) -> Ranking;
+pub type Judge = fn(Filter, &mut [u64], &mut [u8], &mut [u8], &mut [u8]) -> Judgement;
 pub type Certify = fn(Filter, u8, usize, &mut [u64], &mut [u64]) -> Result<(), u8>;
 pub type Check = fn(Filter, u8, usize, &[u64]) -> bool;
 pub type LargestWeight = fn(&[u8]) -> u32;
 pub type RankSum = fn([&[u8; 512]; 3], usize) -> (usize, [Duration; 2]);
 
-// What Judge answers and leaves in the witness buffers, and what Certify answers and leaves in the certificate.
-pub type Judged = (Judgement, [[u8; 512]; 2]);
+// What Rank answers and leaves in the mask of the kept points, what Judge answers and leaves in the witness buffers and in
+// that mask, and what Certify answers and leaves in the certificate.
+pub type Ranked = (Ranking, [u8; 512]);
+pub type Judged = (Judgement, [[u8; 512]; 3]);
 pub type Certified = (Result<(), u8>, Vec<u64>);
 
+// What every byte of a lent mask is at entry.
+pub const UNWRITTEN: u8 = 0xa5;
+
 // Rank of the mask's points of nine taps at degree d.
-pub fn ranks(mask: &[u8], d: usize) -> Vec<Contender<'_, Ranking>> {
-    let proved: Rank = |mask, n, d, workspace| library::rank(mask, n, d, workspace).expect("accepted");
-    let boxed = |rank: Rank| -> Contender<Ranking> { Box::new(move |workspace| rank(mask, 9, d, workspace)) };
+pub fn ranks(mask: &[u8], d: usize) -> Vec<Contender<'_, Ranked>> {
+    let proved: Rank = |mask, n, d, workspace, kept| library::rank(mask, n, d, workspace, kept).expect("accepted");
+    let boxed = |rank: Rank| -> Contender<Ranked> {
+        Box::new(move |workspace| {
+            let mut kept = [UNWRITTEN; 512];
+            (rank(mask, 9, d, workspace, &mut kept), kept)
+        })
+    };
     [Some(proved), Some(elimination::rank), c::RANK].into_iter().flatten().map(boxed).collect()
 }
 
 // Judge of the filter by one of the contenders.
 fn judged(judge: Judge, filter: Filter, workspace: &mut [u64]) -> Judged {
-    let mut witnesses = [[0; 512]; 2];
-    let [one, zero] = &mut witnesses;
-    (judge(filter, workspace, one, zero), witnesses)
+    let mut masks = [[UNWRITTEN; 512]; 3];
+    let [one, zero, kept] = &mut masks;
+    (judge(filter, workspace, one, zero, kept), masks)
 }
 
 // The masks of the set, of part 1 and of part 0.
@@ -60,7 +70,8 @@ pub fn m4ri_steps(runs: usize, filter: Filter) -> Option<[f64; 2]> {
 
 // Judge of the filter.
 pub fn judges(filter: Filter<'_>) -> Vec<Contender<'_, Judged>> {
-    let proved: Judge = |filter, workspace, one, zero| library::judge(filter, workspace, one, zero).expect("accepted");
+    let proved: Judge =
+        |filter, workspace, one, zero, kept| library::judge(filter, workspace, one, zero, kept).expect("accepted");
     let boxed = |judge: Judge| -> Contender<Judged> { Box::new(move |workspace| judged(judge, filter, workspace)) };
     let same_steps = [Some(proved), Some(judge::judge), c::JUDGE].into_iter().flatten().map(boxed);
     same_steps.chain(m4ri::RANK_SUM.map(|rank_sum| ranked(rank_sum, filter))).collect()

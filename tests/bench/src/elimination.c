@@ -79,8 +79,18 @@ void eliminate(struct basis *basis, const uint8_t *mask, int columns, uint64_t *
     basis->kept = 0;
     basis->additions = 0;
     for (int a = 0; a < POINTS; a++)
-        if (mask[a] == 1)
+        if (mask[a] == 1) {
+            basis->points[basis->kept] = a;
             take(basis, a, columns, workspace);
+        }
+}
+
+// The marks become 1 at the points of the rows with pivots among the first `columns` columns, and 0 elsewhere.
+void mark_below(const struct basis *basis, int columns, uint8_t *marks) {
+    memset(marks, 0, POINTS);
+    for (size_t j = 0; j < basis->kept; j++)
+        if (basis->pivots[j] < columns)
+            marks[basis->points[j]] = 1;
 }
 
 // The rows of all points of n taps at degree n, in the second half of the workspace.
@@ -114,11 +124,12 @@ void clear(uint64_t *workspace) {
     memset(workspace, 0, 2 * POINTS * WORDS * sizeof *workspace);
 }
 
-// The rank of the mask's points of n taps at degree d; the workspace is zero at exit.
-size_t c_rank(const uint8_t *mask, size_t n, size_t d, uint64_t *workspace, uint32_t *additions) {
+// The rank of the mask's points of n taps at degree d, and the mask of the kept points; the workspace is zero at exit.
+size_t c_rank(const uint8_t *mask, size_t n, size_t d, uint64_t *workspace, uint8_t *kept, uint32_t *additions) {
     struct basis basis;
     prepare(n, workspace);
     eliminate(&basis, mask, column_count(n, d), workspace);
+    mark_below(&basis, POINTS, kept);
     clear(workspace);
     *additions = basis.additions;
     return basis.kept;

@@ -5,10 +5,10 @@
 
 enum { POINTS = 512, WORDS = 8 };
 
-// What an elimination keeps: how many rows, the first column of each that has a one, and the additions made.
+// What an elimination keeps: how many rows, the first column of each that has a one, its point, and the additions made.
 struct basis {
     size_t kept;
-    uint16_t pivots[POINTS];
+    uint16_t pivots[POINTS], points[POINTS];
     uint32_t additions;
 };
 
@@ -19,6 +19,7 @@ void copy_columns(uint64_t *v, const uint64_t *s, int columns);
 int keep(struct basis *basis, const uint64_t *v);
 int take(struct basis *basis, int a, int columns, uint64_t *workspace);
 void eliminate(struct basis *basis, const uint8_t *mask, int columns, uint64_t *workspace);
+void mark_below(const struct basis *basis, int columns, uint8_t *marks);
 void part_mask(uint8_t *part, const uint8_t *set, const uint8_t *table, int side);
 void clear(uint64_t *workspace);
 

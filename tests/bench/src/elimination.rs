@@ -78,10 +78,11 @@ pub fn add(v: &mut Row, row: &Row) {
     v.iter_mut().zip(row).for_each(|(x, y)| *x ^= y);
 }
 
-// The kept rows of an elimination, the first column of each that has a one, and the additions made.
+// The kept rows of an elimination, the first column of each that has a one, its point, and the additions made.
 pub struct Basis<'a> {
     kept: &'a mut [Row],
     pivots: [u16; POINTS],
+    points: [u16; POINTS],
     pub rank: usize,
     pub additions: u32,
 }
@@ -89,7 +90,7 @@ pub struct Basis<'a> {
 impl<'a> Basis<'a> {
     // No row is kept yet; the rows kept later go to these places.
     pub fn new(places: &'a mut [Row]) -> Basis<'a> {
-        Basis { kept: places, pivots: [0; POINTS], rank: 0, additions: 0 }
+        Basis { kept: places, pivots: [0; POINTS], points: [0; POINTS], rank: 0, additions: 0 }
     }
 
     // The kept rows with their pivots, in the order kept.
@@ -125,33 +126,51 @@ impl<'a> Basis<'a> {
     }
 
     // Takes a row, and tallies each addition at the pivot of the row added.
-    pub fn take_tallied(&mut self, v: Row, tally: &mut [u32; POINTS]) {
+    fn take_tallied(&mut self, v: Row, tally: &mut [u32; POINTS]) {
         let left = self.reduce(v, |c| tally[usize::from(c) % POINTS] += 1);
         self.keep(left);
+    }
+
+    // The point is that of the next row taken, if that is kept.
+    pub fn name(&mut self, a: usize) {
+        self.points[self.rank] = a as u16;
     }
 
     // How many of the pivots are among the first `columns` columns.
     pub fn pivots_below(&self, columns: usize) -> usize {
         self.pivots[..self.rank].iter().filter(|c| usize::from(**c) < columns).count()
     }
+
+    // The mask becomes 1 at the points of the rows with pivots among the first `columns` columns, and 0 elsewhere.
+    pub fn mark_below(&self, columns: usize, mask: &mut [u8]) {
+        mask.fill(0);
+        let named = self.pivots[..self.rank].iter().zip(&self.points);
+        named.filter(|(c, _)| usize::from(**c) < columns).for_each(|(_, a)| mask[usize::from(*a)] = 1);
+    }
 }
 
-// The rows of the mask's points.
-pub fn rows_of<'a>(mask: &'a [u8], rows: &'a [Row]) -> impl Iterator<Item = &'a Row> {
-    mask.iter().zip(rows).filter(|(x, _)| **x == 1).map(|(_, row)| row)
+// The mask's points with their rows.
+pub fn rows_of<'a>(mask: &'a [u8], rows: &'a [Row]) -> impl Iterator<Item = (usize, &'a Row)> {
+    mask.iter().zip(rows.iter().enumerate()).filter(|(x, _)| **x == 1).map(|(_, named)| named)
 }
 
 // The elimination of the mask's points, with their rows at the first `columns` columns.
 pub fn eliminate<'a>(mask: &[u8], columns: usize, kept: &'a mut [Row], rows: &[Row]) -> Basis<'a> {
     let mut basis = Basis::new(kept);
-    rows_of(mask, rows).for_each(|row| _ = basis.take(first_columns(row, columns)));
+    for (a, row) in rows_of(mask, rows) {
+        basis.name(a);
+        basis.take(first_columns(row, columns));
+    }
     basis
 }
 
 // The elimination of the mask's points with all columns, and at each column how often the row with that pivot is added.
 pub fn eliminate_tallied<'a>(mask: &[u8], kept: &'a mut [Row], rows: &[Row]) -> (Basis<'a>, [u32; POINTS]) {
     let (mut basis, mut tally) = (Basis::new(kept), [0; POINTS]);
-    rows_of(mask, rows).for_each(|row| basis.take_tallied(*row, &mut tally));
+    for (a, row) in rows_of(mask, rows) {
+        basis.name(a);
+        basis.take_tallied(*row, &mut tally);
+    }
     (basis, tally)
 }
 
@@ -164,10 +183,17 @@ pub fn prepare(n: usize, workspace: &mut [u64]) -> (&mut [Row], &mut [Row]) {
     (kept, rows)
 }
 
-// The rank of the mask's points of n taps at degree d; the workspace is zero at exit.
-pub fn rank(mask: &[u8], n: usize, d: usize, workspace: &mut [u64]) -> Ranking {
+// The elimination of the mask's points; the other mask becomes that of the kept points.
+pub fn keep_points(mask: &[u8], columns: usize, kept: &mut [Row], rows: &[Row], marks: &mut [u8]) -> Ranking {
+    let basis = eliminate(mask, columns, kept, rows);
+    basis.mark_below(POINTS, marks);
+    Ranking { rank: basis.rank, additions: basis.additions }
+}
+
+// The rank of the mask's points of n taps at degree d, and the mask of the kept points; the workspace is zero at exit.
+pub fn rank(mask: &[u8], n: usize, d: usize, workspace: &mut [u64], marks: &mut [u8]) -> Ranking {
     let (kept, rows) = prepare(n, workspace);
-    let Basis { rank, additions, .. } = eliminate(mask, column_count(n, d), kept, rows);
+    let ranking = keep_points(mask, column_count(n, d), kept, rows, marks);
     workspace.fill(0);
-    Ranking { rank, additions }
+    ranking
 }

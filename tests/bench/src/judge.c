@@ -1,6 +1,6 @@
-// Judge of the proved library in C, by the same steps: rows made once, an elimination with all columns for the set and
-// each part, the ranks at each degree from its pivots, each side's first difference, the mark, and by back substitution
-// the witness of each side that differs at the first of both.
+// Judge of the proved library in C, by the same steps: rows made once, an elimination with all columns for each part and
+// the set, the ranks at each degree from its pivots, each side's first difference, the mark, the mask of the set's kept
+// points from the pivots, and by back substitution the witness of each side that differs at the first of both.
 #include "elimination.h"
 #include <string.h>
 
@@ -68,8 +68,10 @@ static void eliminate_tallied(struct basis *basis, uint32_t *tally, const uint8_
     basis->kept = 0;
     memset(tally, 0, POINTS * sizeof *tally);
     for (int a = 0; a < POINTS; a++)
-        if (mask[a] == 1)
+        if (mask[a] == 1) {
+            basis->points[basis->kept] = a;
             take_tallied(basis, tally, a, workspace);
+        }
 }
 
 // How many of the pivots are among the first `columns` columns.
@@ -89,18 +91,19 @@ static uint32_t tally_below(const uint32_t *tally, int columns) {
 }
 
 // The ranks of the three masks at each degree; all additions. The columns of a degree are the first ones, and a kept row
-// whose pivot is past them is zero in them.
-static uint32_t all_ranks(size_t ranks[DEGREES][3], const uint8_t *masks[3], size_t n, uint64_t *workspace) {
+// whose pivot is past them is zero in them. The first mask is taken last, and the basis is that of its points.
+static uint32_t all_ranks(size_t ranks[DEGREES][3], struct basis *basis, const uint8_t *masks[3], size_t n,
+                          uint64_t *workspace) {
     int columns[DEGREES];
     uint32_t additions = 0, tally[POINTS];
-    struct basis basis;
     memset(ranks, 0, DEGREES * sizeof *ranks);
     for (size_t d = 0; d <= n; d++)
         columns[d] = column_count(n, d);
-    for (int i = 0; i < 3; i++) {
-        eliminate_tallied(&basis, tally, masks[i], workspace);
+    for (int turn = 1; turn <= 3; turn++) {
+        int i = turn % 3;
+        eliminate_tallied(basis, tally, masks[i], workspace);
         for (size_t d = 0; d <= n; d++) {
-            ranks[d][i] = pivots_below(&basis, columns[d]);
+            ranks[d][i] = pivots_below(basis, columns[d]);
             additions += tally_below(tally, columns[d]);
         }
     }
@@ -125,17 +128,19 @@ static size_t mark_of(size_t ranks[DEGREES][3], size_t n) {
 
 // Judge of a filter of n taps; the workspace is zero at exit. A side that has no degree of its own gets DEGREES.
 void c_judge(const uint8_t *set, const uint8_t *table, size_t n, uint64_t *workspace, uint8_t *one, uint8_t *zero,
-             size_t ranks[DEGREES][3], size_t *degree, uint8_t *side, uint32_t *additions, size_t own_degrees[2],
-             size_t *mark) {
+             uint8_t *kept, size_t ranks[DEGREES][3], size_t *degree, uint8_t *side, uint32_t *additions,
+             size_t own_degrees[2], size_t *mark) {
     uint8_t part_one[POINTS], part_zero[POINTS];
     const uint8_t *masks[3] = {set, part_one, part_zero};
+    struct basis of_set;
     part_mask(part_one, set, table, 1);
     part_mask(part_zero, set, table, 0);
     prepare(n, workspace);
-    *additions = all_ranks(ranks, masks, n, workspace);
+    *additions = all_ranks(ranks, &of_set, masks, n, workspace);
     own_degrees[0] = first_difference(ranks, 1);
     own_degrees[1] = first_difference(ranks, 2);
     size_t k = own_degrees[0] < own_degrees[1] ? own_degrees[0] : own_degrees[1];
+    mark_below(&of_set, column_count(n, k), kept);
     memset(one, 0, POINTS);
     memset(zero, 0, POINTS);
     if (ranks[k][1] != ranks[k][0])

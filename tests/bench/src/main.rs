@@ -45,7 +45,7 @@ fn bench_rank(title: &str, mask: &[u8]) {
     println!("Rank, n = 9, {title}; microseconds, least of {RUNS} runs, the degrees in turn");
     println!(" d  rank additions{}", heads(&["Rust", "C"]));
     let found = race(RUNS, &[0, 1, 2, 3, 4, 5, 6, 7, 8, 9].map(|d| ranks(mask, d)));
-    for (d, (ranking, times)) in found.iter().enumerate() {
+    for (d, ((ranking, _), times)) in found.iter().enumerate() {
         println!("{d:2} {:5} {:9}{}", ranking.rank, ranking.additions, line(times));
     }
     println!("mean             {}", line(&means(&found)));
@@ -127,7 +127,8 @@ fn bench_longest_file(all: &[u8]) {
 // to its limit.
 fn bench_check(title: &str, set: &[u8], table: &[u8]) {
     let (filter, mut random) = (Filter { n: 9, set, table }, Random(4));
-    let judged = library::judge(filter, &mut [0; 8192], &mut [0; 512], &mut [0; 512]).expect("accepted");
+    let [mut one, mut zero, mut kept] = [[0; 512]; 3];
+    let judged = library::judge(filter, &mut [0; 8192], &mut one, &mut zero, &mut kept).expect("accepted");
     let own = certificates(filter).filter(|own| own.d < judged.degree);
     let both: Vec<Certificate> = own.flat_map(|own| [own.clone(), own.with_longer_sums(&mut random)]).collect();
     println!("Check, n = 9, {title}; microseconds, least of {RUNS} runs, all in turn");

@@ -1,5 +1,5 @@
 // The operations on one filter, proved and by the independent implementation, each timed.
-use crate::contenders::Certify;
+use crate::contenders::{Certify, Judged, Ranked, UNWRITTEN};
 use crate::timing::{Contender, means, race};
 use independent::check::check;
 use independent::filter::Filter;
@@ -16,8 +16,8 @@ type Read = fn(&[u8], &mut [u8], &mut [u8]) -> Result<usize, u8>;
 type Write = fn(Filter, &mut [u8]) -> Result<usize, u8>;
 type Convert = fn(&mut [u8], usize) -> Result<(), u8>;
 type Degree = fn(&[u8], usize) -> Result<u32, u8>;
-type Rank = fn(&[u8], usize, usize, &mut [u64]) -> Result<Ranking, u8>;
-type Judge = fn(Filter, &mut [u64], &mut [u8], &mut [u8]) -> Result<Judgement, u8>;
+type Rank = fn(&[u8], usize, usize, &mut [u64], &mut [u8]) -> Result<Ranking, u8>;
+type Judge = fn(Filter, &mut [u64], &mut [u8], &mut [u8], &mut [u8]) -> Result<Judgement, u8>;
 type Check = fn(Filter, u8, usize, &[u64]) -> Result<bool, u8>;
 type HandOver = fn(usize, u8, &[u8], &[u8], &mut [u8]) -> usize;
 type Sheet = fn(&[u8]) -> String;
@@ -71,7 +71,8 @@ impl Subject {
         library::convert(&mut coefficients, n).expect("a table that Convert accepts");
         let ([one, zero], filter) = (&mut witnesses, Filter { n, set: &set, table: &table });
         let file = Triple::of(filter).file();
-        let judgement = library::judge(filter, &mut [0; 8192], one, zero).expect("a filter that Judge accepts");
+        let judged = library::judge(filter, &mut [0; 8192], one, zero, &mut [0; 512]);
+        let judgement = judged.expect("a filter that Judge accepts");
         Subject { n, set, table, file, coefficients, judgement, witnesses }
     }
 
@@ -122,13 +123,20 @@ impl Subject {
     }
 
     // Rank of the set at degree n.
-    fn rank(&self, rank: Rank) -> impl Fn(&mut [u64]) -> Ranking {
-        move |workspace| rank(&self.set, self.n, self.n, workspace).expect("accepted")
+    fn rank(&self, rank: Rank) -> impl Fn(&mut [u64]) -> Ranked {
+        move |workspace| {
+            let mut kept = [UNWRITTEN; 512];
+            (rank(&self.set, self.n, self.n, workspace, &mut kept).expect("accepted"), kept)
+        }
     }
 
     // Judge.
-    fn judge(&self, judge: Judge) -> impl Fn(&mut [u64]) -> Judgement {
-        move |workspace| judge(self.filter(), workspace, &mut [0; 512], &mut [0; 512]).expect("accepted")
+    fn judge(&self, judge: Judge) -> impl Fn(&mut [u64]) -> Judged {
+        move |workspace| {
+            let mut masks = [[UNWRITTEN; 512]; 3];
+            let [one, zero, kept] = &mut masks;
+            (judge(self.filter(), workspace, one, zero, kept).expect("accepted"), masks)
+        }
     }
 
     // Certify of side 1 at the degree before the reported one.

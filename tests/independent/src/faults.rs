@@ -88,13 +88,15 @@ pub struct Asked {
     pub d: usize,
     pub workspace: usize,
     pub witnesses: [usize; 2],
+    pub kept: usize,
     pub certificate: usize,
 }
 
 impl Asked {
     // What all three accept beside a filter with a point in each part.
     pub fn good(random: &mut Random) -> Asked {
-        Asked { side: random.pick(&[1, 0]), d: 0, workspace: 8192, witnesses: [512, 512], certificate: 4096 }
+        let side = random.pick(&[1, 0]);
+        Asked { side, d: 0, workspace: 8192, witnesses: [512, 512], kept: 512, certificate: 4096 }
     }
 }
 

@@ -1,6 +1,6 @@
 // Read and Write: docs/SPECIFICATION.md, 'Filter file' to 'Write'.
 use crate::filter::Filter;
-use crate::rank::points_of;
+use crate::rank::{choose, points_of};
 use crate::refusal::{POINTS, Refusal, lengths, require, taps};
 
 // What a file says: n, the points of S, and the points where f is 1.
@@ -54,20 +54,12 @@ pub fn parse(file: &[u8]) -> Result<Triple, Refusal> {
     Ok(Triple { n, set, table })
 }
 
-// Each byte becomes 1 at the points and 0 elsewhere.
-fn mark(mask: &mut [u8], points: &[usize]) {
-    mask.fill(0);
-    for a in points {
-        mask[*a] = 1;
-    }
-}
-
 // Read.
 pub fn read(file: &[u8], set: &mut [u8], table: &mut [u8]) -> Result<usize, u8> {
     lengths(&[(set.len(), POINTS), (table.len(), POINTS)])?;
     let triple = parse(file)?;
-    mark(set, &triple.set);
-    mark(table, &triple.table);
+    choose(set, triple.set);
+    choose(table, triple.table);
     Ok(triple.n)
 }
 

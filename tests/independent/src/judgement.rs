@@ -2,8 +2,9 @@
 use crate::annihilator::lowest_degree;
 use crate::certificate::turn;
 use crate::filter::Filter;
+use crate::kept::kept_points;
 use crate::mark::mark;
-use crate::rank::{column_vectors, points_of, ranking, row, row_span};
+use crate::rank::{choose, column_vectors, points_of, ranking, row, row_span};
 use crate::refusal::{CERTIFICATE, POINTS, Refusal, WORKSPACE, lengths, require, taps};
 use crate::span::{Bits, Span};
 
@@ -28,18 +29,16 @@ fn witness(points: &[usize], part: &[usize], n: usize, d: usize) -> Bits {
     kept.express(Bits::from_iter([p])).expect("the row of p is not a sum of rows of the part")
 }
 
-// The buffer becomes the choice of exponents, or zeros where there is none.
-fn write_choice(buffer: &mut [u8], choice: Option<Bits>) {
-    buffer.fill(0);
-    for u in choice.iter().flat_map(|bits| bits.places()) {
-        buffer[u] = 1;
-    }
-}
-
 // Judge.
-pub fn judge(filter: Filter, workspace: &mut [u64], one: &mut [u8], zero: &mut [u8]) -> Result<Judgement, u8> {
+pub fn judge(
+    filter: Filter,
+    workspace: &mut [u64],
+    one: &mut [u8],
+    zero: &mut [u8],
+    kept: &mut [u8],
+) -> Result<Judgement, u8> {
     filter.check_lengths()?;
-    lengths(&[(workspace.len(), WORKSPACE), (one.len(), POINTS), (zero.len(), POINTS)])?;
+    lengths(&[(workspace.len(), WORKSPACE), (one.len(), POINTS), (zero.len(), POINTS), (kept.len(), POINTS)])?;
     filter.check()?;
     let n = filter.n;
     workspace.fill(0);
@@ -52,9 +51,11 @@ pub fn judge(filter: Filter, workspace: &mut [u64], one: &mut [u8], zero: &mut [
     }
     let differs = |d: usize, i: usize| ranks[d][i] != ranks[d][0];
     let degree = (0..=n).find(|d| differs(*d, 1) || differs(*d, 2)).expect("at n a part differs");
-    let found = |i: usize| differs(degree, i).then(|| witness(&lists[0], &lists[i], n, degree));
-    write_choice(one, found(1));
-    write_choice(zero, found(2));
+    for (i, buffer) in [(1, one), (2, zero)] {
+        let found = differs(degree, i).then(|| witness(&lists[0], &lists[i], n, degree));
+        choose(buffer, found.iter().flat_map(|exponents| exponents.places()));
+    }
+    choose(kept, kept_points(&lists[0], n, degree));
     let side = differs(degree, 1).into();
     let own_degrees = [1, 2].map(|i| lowest_degree(n, &lists[0], &lists[i]));
     Ok(Judgement { ranks, degree, side, additions, own_degrees, mark: mark(n, &lists[0]) })

@@ -1,4 +1,6 @@
-// Rank: docs/SPECIFICATION.md, 'Rank'. The rank by columns in order of number, the additions by the specified steps.
+// Rank: docs/SPECIFICATION.md, 'Rank'. The rank by columns in order of number, the additions by the specified steps, the
+// kept points by sums of rows or of columns.
+use crate::kept::kept_points;
 use crate::normal_form::{weight, within};
 use crate::refusal::{POINTS, Refusal, WORKSPACE, bytes, lengths, require, taps};
 use crate::span::{Bits, Span};
@@ -13,6 +15,12 @@ pub fn columns(n: usize, d: usize) -> Vec<usize> {
 // The points of a mask, rising.
 pub fn points_of(mask: &[u8]) -> Vec<usize> {
     (0..mask.len()).filter(|a| mask[*a] == 1).collect()
+}
+
+// The mask becomes 1 at the points and 0 elsewhere.
+pub fn choose(mask: &mut [u8], points: impl IntoIterator<Item = usize>) {
+    mask.fill(0);
+    points.into_iter().for_each(|a| mask[a] = 1);
 }
 
 // The exponents of weight at most d within the point a, in order of number.
@@ -65,11 +73,13 @@ pub fn ranking(points: &[usize], n: usize, d: usize) -> Ranking {
 }
 
 // Rank.
-pub fn rank(mask: &[u8], n: usize, d: usize, workspace: &mut [u64]) -> Result<Ranking, u8> {
-    lengths(&[(mask.len(), POINTS), (workspace.len(), WORKSPACE)])?;
+pub fn rank(mask: &[u8], n: usize, d: usize, workspace: &mut [u64], kept: &mut [u8]) -> Result<Ranking, u8> {
+    lengths(&[(mask.len(), POINTS), (workspace.len(), WORKSPACE), (kept.len(), POINTS)])?;
     taps(n)?;
     bytes(mask, n)?;
     require(d <= n, Refusal::Degree)?;
     workspace.fill(0);
-    Ok(ranking(&points_of(mask), n, d))
+    let points = points_of(mask);
+    choose(kept, kept_points(&points, n, d));
+    Ok(ranking(&points, n, d))
 }

@@ -44,9 +44,9 @@ fn sides_line(judgement: &Judgement) -> String {
 fn accepted(file: &[u8]) -> Result<String, u8> {
     let (mut set, mut table) = (vec![0; POINTS], vec![0; POINTS]);
     let n = read(file, &mut set, &mut table)?;
-    let (mut one, mut zero) = (vec![0; POINTS], vec![0; POINTS]);
+    let [mut one, mut zero, mut kept] = [(); 3].map(|_| vec![0; POINTS]);
     let filter = Filter { n, set: &set, table: &table };
-    let judgement = judge(filter, &mut vec![0; WORKSPACE], &mut one, &mut zero)?;
+    let judgement = judge(filter, &mut vec![0; WORKSPACE], &mut one, &mut zero, &mut kept)?;
     let mut sheet = format!("n {n} points {} mark {}\n", points_of(&set).len(), judgement.mark);
     for (d, [all, part_one, part_zero]) in judgement.ranks[..=n].iter().enumerate() {
         let _ = writeln!(sheet, "{d} {all} {part_one} {part_zero}");

@@ -1,5 +1,5 @@
-// Ranks, degrees, witnesses and certificates of up to three taps, against trying every polynomial. Sets of points and
-// sets of exponents are numbers here: bit a for the point a, bit u for the exponent u.
+// Ranks, degrees, witnesses, kept points and certificates of up to three taps, against trying every polynomial. Sets of
+// points and sets of exponents are numbers here: bit a for the point a, bit u for the exponent u.
 use independent::filter::Filter;
 use independent::judgement::{Judgement, certify, judge};
 use independent::rank::Ranking;
@@ -50,6 +50,17 @@ fn graded(n: usize, d: usize) -> Vec<usize> {
     weights.flat_map(|w| (0..1usize << n).filter(move |u| u.count_ones() == w)).collect()
 }
 
+// The row of a point at degree d: bit u for the exponent u.
+fn row(n: usize, d: usize, a: usize) -> usize {
+    collect(n, |u| u & a == u && u.count_ones() as usize <= d)
+}
+
+// Those of the points that are kept at degree d: whose rows are no sums of rows of smaller ones.
+fn kept(n: usize, points: usize, d: usize) -> usize {
+    let smaller = |q: usize| (0..q).filter(|a| has(points, *a)).map(|a| row(n, d, a)).collect::<Vec<_>>();
+    collect(n, |q| has(points, q) && !is_sum(&smaller(q), row(n, d, q)))
+}
+
 // The rank of the points at degree d: so many powers of 2 are the values there of the polynomials up to that degree.
 fn rank(all: &[Polynomial], points: usize, d: usize) -> usize {
     let mut values: Vec<usize> = all.iter().filter(|g| g.degree <= d).map(|g| g.values & points).collect();
@@ -84,8 +95,7 @@ fn rankings(all: &[Polynomial], n: usize, d: usize) -> Vec<Ranking> {
 // The witness as docs/SPECIFICATION.md, 'Witness', words it: p, the kept columns, and the only polynomial on them; 0
 // where there is none.
 fn witness(all: &[Polynomial], n: usize, set: usize, part: usize, k: usize) -> usize {
-    let exponents = graded(n, k);
-    let row = |a: usize| collect(n, |u| u & a == u && exponents.contains(&u));
+    let (exponents, row) = (graded(n, k), |a: usize| row(n, k, a));
     let rows: Vec<usize> = (0..1 << n).filter(|a| has(part, *a)).map(row).collect();
     let Some(p) = (0..1 << n).find(|a| has(set, *a) && !is_sum(&rows, row(*a))) else {
         return 0;
@@ -100,10 +110,10 @@ fn witness(all: &[Polynomial], n: usize, set: usize, part: usize, k: usize) -> u
     choices[0]
 }
 
-// The choice of exponents in a witness buffer.
-fn choice_of(buffer: &[u8]) -> usize {
+// The exponents in a witness buffer, or the points in a mask, of up to three taps.
+fn bits_of(buffer: &[u8]) -> usize {
     assert!(buffer.iter().all(|x| *x <= 1) && buffer[8..].iter().all(|x| *x == 0));
-    (0..8).filter(|u| buffer[*u] == 1).map(|u| 1 << u).sum()
+    collect(3, |i| buffer[i] == 1)
 }
 
 // The mask of the bits.
@@ -111,12 +121,12 @@ fn mask(n: usize, bits: usize) -> Vec<u8> {
     mask_of(n, |a| has(bits, a))
 }
 
-// Judge's answer, and the choices of the witnesses of side 1 and side 0.
-fn judged(n: usize, set: usize, table: usize) -> (Judgement, [usize; 2]) {
-    let (mut workspace, mut one, mut zero) = (vec![0; 8192], vec![9; 512], vec![9; 512]);
+// Judge's answer, the choices of the witnesses of side 1 and side 0, and the kept points.
+fn judged(n: usize, set: usize, table: usize) -> (Judgement, [usize; 2], usize) {
+    let (mut workspace, [mut one, mut zero, mut kept]) = (vec![0; 8192], [(); 3].map(|_| vec![9; 512]));
     let filter = Filter { n, set: &mask(n, set), table: &mask(n, table) };
-    let answer = judge(filter, &mut workspace, &mut one, &mut zero);
-    (answer.expect("accepted"), [choice_of(&one), choice_of(&zero)])
+    let answer = judge(filter, &mut workspace, &mut one, &mut zero, &mut kept);
+    (answer.expect("accepted"), [bits_of(&one), bits_of(&zero)], bits_of(&kept))
 }
 
 // The ranks and additions of one set and table, from those of every set at each degree.
@@ -137,9 +147,10 @@ fn check_mark(judgement: &Judgement, by_degree: &[Vec<Ranking>], set: usize) {
     assert!(judgement.degree <= judgement.mark, "set {set:b}: over the mark");
 }
 
-// Demand 3 about ranks, degree, side and witnesses for one set and table, the sides' own degrees, and the mark.
+// Demand 3 about ranks, degree, side and witnesses for one set and table, the sides' own degrees, the mark, and the kept
+// points of the set at the reported degree.
 fn check_judgement(all: &[Polynomial], by_degree: &[Vec<Ranking>], n: usize, set: usize, table: usize) {
-    let (judgement, witnesses) = judged(n, set, table);
+    let (judgement, witnesses, kept_of_set) = judged(n, set, table);
     let parts = [set & table, set & !table];
     check_ranks(&judgement, by_degree, [set, parts[0], parts[1]]);
     check_mark(&judgement, by_degree, set);
@@ -151,6 +162,7 @@ fn check_judgement(all: &[Polynomial], by_degree: &[Vec<Ranking>], n: usize, set
     let k = least.into_iter().flatten().min().expect("a polynomial cancels");
     assert_eq!((judgement.degree, judgement.side == 1), (k, least[0] == Some(k)));
     assert_eq!(judgement.own_degrees, least, "n {n} set {set:b} table {table:b}");
+    assert_eq!(kept_of_set, kept(n, set, k), "n {n} set {set:b} table {table:b}");
     for i in [0, 1] {
         assert_eq!(witnesses[i], witness(all, n, set, parts[i], k));
         let own = cancelling(all, set, parts[i]).find(|g| g.choice == witnesses[i]);
@@ -180,9 +192,7 @@ fn check_certificate(all: &[Polynomial], n: usize, [set, table]: [usize; 2], sid
         return;
     }
     assert_eq!(answer, Ok(()));
-    let row = |a: usize| collect(n, |u| u & a == u && u.count_ones() as usize <= d);
-    let smaller = |q: usize| (0..q).filter(|a| has(part, *a)).map(row).collect::<Vec<_>>();
-    let kept = collect(n, |q| has(part, q) && !is_sum(&smaller(q), row(q)));
+    let (kept, row) = (kept(n, part, d), |a: usize| row(n, d, a));
     for (a, words) in certificate.chunks(8).enumerate() {
         let sum = words[0] as usize;
         assert!(words[1..].iter().all(|word| *word == 0) && sum & !kept == 0);

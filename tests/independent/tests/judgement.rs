@@ -3,19 +3,20 @@
 use independent::certificate::named;
 use independent::filter::Filter;
 use independent::judgement::{Judgement, certify, hand_over, judge};
+use independent::kept::kept_points;
 use independent::normal_form::{convert, degree};
 use independent::random::Random;
-use independent::rank::{points_of, row};
+use independent::rank::{points_of, row, row_span};
 use independent::samples::{mask_of, pairs};
 use independent::span::Bits;
 
-// What Judge answered, and the exponents of the witnesses of side 1 and side 0.
-fn judged(n: usize, set: &[u8], table: &[u8]) -> (Judgement, [Vec<usize>; 2]) {
-    let (mut workspace, mut one, mut zero) = (vec![9; 8192], vec![9; 512], vec![9; 512]);
-    let judgement = judge(Filter { n, set, table }, &mut workspace, &mut one, &mut zero).expect("accepted");
+// What Judge answered, the exponents of the witnesses of side 1 and side 0, and the kept points.
+fn judged(n: usize, set: &[u8], table: &[u8]) -> (Judgement, [Vec<usize>; 2], Vec<usize>) {
+    let (mut workspace, [mut one, mut zero, mut kept]) = (vec![9; 8192], [(); 3].map(|_| vec![9; 512]));
+    let judgement = judge(Filter { n, set, table }, &mut workspace, &mut one, &mut zero, &mut kept).expect("accepted");
     assert!(workspace.iter().all(|word| *word == 0));
     let chosen = |buffer: Vec<u8>| (0..512).filter(|u| buffer[*u] != 0).collect();
-    (judgement, [chosen(one), chosen(zero)])
+    (judgement, [chosen(one), chosen(zero)], chosen(kept))
 }
 
 // The mask of the listed points.
@@ -25,43 +26,47 @@ fn listed(n: usize, points: &[usize]) -> Vec<u8> {
 
 #[test]
 fn starred_case_5() {
-    let (judgement, witnesses) = judged(2, &mask_of(2, |_| true), &listed(2, &[3]));
+    let (judgement, witnesses, kept) = judged(2, &mask_of(2, |_| true), &listed(2, &[3]));
     assert_eq!(judgement.ranks[..4], [[1, 1, 1], [3, 1, 3], [4, 1, 3], [0, 0, 0]]);
     assert_eq!((judgement.degree, judgement.side, judgement.additions), (1, 1, 19));
     assert_eq!((judgement.own_degrees, judgement.mark), ([Some(1), Some(2)], 1));
-    assert_eq!(witnesses, [vec![0, 1], vec![]]);
+    assert_eq!((witnesses, kept), ([vec![0, 1], vec![]], vec![0, 1, 2]));
 }
 
 #[test]
 fn starred_cases_6_and_7() {
-    let (majority, _) = judged(3, &mask_of(3, |_| true), &listed(3, &[3, 5, 6, 7]));
+    let (majority, _, kept) = judged(3, &mask_of(3, |_| true), &listed(3, &[3, 5, 6, 7]));
     assert_eq!((majority.ranks[1], majority.degree, majority.side, majority.mark), ([4, 4, 4], 2, 1, 2));
-    let (even, _) = judged(4, &listed(4, &[0, 3, 5, 6, 9, 10, 12, 15]), &listed(4, &[6, 10, 12, 15]));
+    assert_eq!(kept, [0, 1, 2, 3, 4, 5, 6]);
+    let (even, _, kept) = judged(4, &listed(4, &[0, 3, 5, 6, 9, 10, 12, 15]), &listed(4, &[6, 10, 12, 15]));
     assert_eq!((even.ranks[1], even.degree, even.mark), ([4, 4, 4], 2, 2));
+    assert_eq!(kept, [0, 3, 5, 6, 9, 10, 12]);
 }
 
 #[test]
 fn starred_cases_8_and_9() {
-    let (zero, witnesses) = judged(1, &listed(1, &[0]), &listed(1, &[]));
+    let (zero, witnesses, kept) = judged(1, &listed(1, &[0]), &listed(1, &[]));
     assert_eq!((zero.degree, zero.side, zero.own_degrees, zero.mark), (0, 1, [Some(0), None], 0));
-    assert_eq!(witnesses, [vec![0], vec![]]);
-    let (one, witnesses) = judged(1, &listed(1, &[0]), &listed(1, &[0]));
+    assert_eq!((witnesses, kept), ([vec![0], vec![]], vec![0]));
+    let (one, witnesses, kept) = judged(1, &listed(1, &[0]), &listed(1, &[0]));
     assert_eq!((one.degree, one.side, one.own_degrees, one.mark), (0, 0, [None, Some(0)], 0));
-    assert_eq!(witnesses, [vec![], vec![0]]);
+    assert_eq!((witnesses, kept), ([vec![], vec![0]], vec![0]));
 }
 
 #[test]
 fn starred_case_10() {
-    let (judgement, witnesses) = judged(2, &listed(2, &[1, 2]), &listed(2, &[1]));
+    let (judgement, witnesses, kept) = judged(2, &listed(2, &[1, 2]), &listed(2, &[1]));
     assert_eq!([0, 1, 2].map(|d| judgement.ranks[d][0]), [1, 2, 2]);
     assert_eq!((judgement.degree, judgement.mark, &witnesses[0][..]), (1, 1, &[0, 1][..]));
+    assert_eq!(kept, [1, 2]);
 }
 
 #[test]
 fn case_11() {
-    let (judgement, witnesses) = judged(4, &listed(4, &[3, 5, 6, 9, 10, 12]), &listed(4, &[3, 5, 6]));
+    let (judgement, witnesses, kept) = judged(4, &listed(4, &[3, 5, 6, 9, 10, 12]), &listed(4, &[3, 5, 6]));
     assert_eq!([0, 1, 2, 3, 4].map(|d| judgement.ranks[d][0]), [1, 4, 6, 6, 6]);
     assert_eq!((judgement.mark, judgement.degree, &witnesses[0][..]), (1, 1, &[1, 2, 4][..]));
+    assert_eq!(kept, [3, 5, 6, 9]);
 }
 
 // The exponents are a polynomial of degree k that is zero on the part and not on all of the set.
@@ -72,25 +77,29 @@ fn check_witness(n: usize, exponents: &[usize], k: usize, [set, part]: [&[usize]
     assert!(part.iter().all(|a| polynomial[*a] == 0) && set.iter().any(|a| polynomial[*a] == 1));
 }
 
-// The certificate of the side at degree d names points of the part whose rows sum to the row of each other point of the
-// set, and nothing else.
+// The certificate of the side at degree d names kept points of the part whose rows sum to the row of each other point of
+// the set, and nothing else.
 fn check_certificate(filter: Filter, side: u8, d: usize, [set, part]: [&[usize]; 2]) {
     let mut certificate = vec![9; 4096];
     assert_eq!(certify(filter, side, d, &mut vec![9; 8192], &mut certificate), Ok(()));
+    let kept = kept_points(part, filter.n, d);
     for a in 0..512 {
         let named: Vec<usize> = named(&certificate, a).collect();
         let sum = named.iter().fold(Bits::default(), |sum, q| sum.plus(row(d, *q)));
         let outside = set.contains(&a) && !part.contains(&a);
-        assert!(named.iter().all(|q| part.contains(q)) && (outside || named.is_empty()));
+        assert!(named.iter().all(|q| kept.contains(q)) && (outside || named.is_empty()));
         assert!(!outside || sum == row(d, a), "{filter:?}, side {side}, point {a}, d = {d}");
     }
 }
 
-// The witnesses of the filter, and its certificates at the degree before the reported one, which is not over the mark.
+// The witnesses of the filter; its certificates at the degree before the reported one, which is not over the mark; and the
+// kept points at the reported one, as many as the rank of the set, which is theirs too.
 fn check_judgement(n: usize, set: &[u8], table: &[u8]) {
-    let (judgement, witnesses) = judged(n, set, table);
+    let (judgement, witnesses, kept) = judged(n, set, table);
     let (k, points) = (judgement.degree, points_of(set));
     assert!(k <= judgement.mark, "over the mark: n = {n}, points {points:?}");
+    assert!(kept.iter().all(|a| set[*a] == 1), "kept outside the set: n = {n}, points {points:?}");
+    assert_eq!([kept.len(), row_span(&kept, k).rank()], [judgement.ranks[k][0]; 2], "n = {n}, points {points:?}");
     for (side, witness) in [1, 0].into_iter().zip(&witnesses) {
         let part: Vec<usize> = points.iter().copied().filter(|a| table[*a] == side).collect();
         if judgement.ranks[k][2 - usize::from(side)] == judgement.ranks[k][0] {
@@ -116,18 +125,20 @@ fn witnesses_and_certificates_of_every_kind_of_filter_of_four_to_nine_taps() {
 #[test]
 fn judge_checks_in_order() {
     let (good, broken, none) = (vec![1; 512], vec![2; 512], vec![0; 512]);
-    let number = |set: &[u8], table: &[u8], n, lengths: [usize; 3]| {
-        let [mut one, mut zero] = [lengths[1], lengths[2]].map(|length| vec![7; length]);
-        let mut workspace = vec![7; lengths[0]];
-        let number = judge(Filter { n, set, table }, &mut workspace, &mut one, &mut zero).err().unwrap_or(0);
-        let untouched = workspace.iter().all(|word| *word == 7) && one.iter().chain(&zero).all(|x| *x == 7);
+    let number = |set: &[u8], table: &[u8], n, [workspace, one, zero, kept]: [usize; 4]| {
+        let (mut workspace, mut bytes) = (vec![7; workspace], [one, zero, kept].map(|length| vec![7; length]));
+        let [one, zero, kept] = &mut bytes;
+        let number = judge(Filter { n, set, table }, &mut workspace, one, zero, kept).err().unwrap_or(0);
+        let untouched = workspace.iter().all(|word| *word == 7) && bytes.concat().iter().all(|x| *x == 7);
         assert_eq!(untouched, number != 0);
         number
     };
-    let right = [8192, 512, 512];
+    let right = [8192, 512, 512, 512];
     assert_eq!(number(&broken[1..], &broken, 0, right), 1);
     assert_eq!(number(&broken, &broken[1..], 0, right), 1);
-    for lengths in [[8191, 512, 512], [8192, 511, 512], [8192, 512, 513]] {
+    for (place, length) in [(0, 8191), (1, 511), (2, 513), (3, 511), (3, 513), (3, 0)] {
+        let mut lengths = right;
+        lengths[place] = length;
         assert_eq!(number(&broken, &broken, 0, lengths), 1);
     }
     assert_eq!(number(&broken, &broken, 10, right), 4);

@@ -21,7 +21,8 @@ fn its_immunity_on_each_weight_is_that_of_table_4() {
     let table = mask_of(8, perfectly_balanced);
     let degrees = [0, 1, 2, 3, 4, 5, 6, 7, 8].map(|w| {
         let filter = Filter { n: 8, set: &mask_of(8, |a| weight(a) == w), table: &table };
-        judge(filter, &mut [0; 8192], &mut [0; 512], &mut [0; 512]).expect("accepted").degree
+        let [mut one, mut zero, mut kept] = [[0; 512]; 3];
+        judge(filter, &mut [0; 8192], &mut one, &mut zero, &mut kept).expect("accepted").degree
     });
     assert_eq!(degrees, [0, 1, 1, 2, 2, 2, 2, 1, 0]);
 }

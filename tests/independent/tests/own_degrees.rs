@@ -8,7 +8,8 @@ use independent::samples::{masks, pairs};
 // Side 1's own degree and side 0's. There is none exactly where the side's part is all of the set, the reported degree
 // is the smaller of those that exist and not over the mark, and the side is 1 exactly where that is side 1's.
 fn own_degrees(filter: Filter) -> [Option<usize>; 2] {
-    let found = judge(filter, &mut [0; 8192], &mut [0; 512], &mut [0; 512]).expect("accepted");
+    let [mut one, mut zero, mut kept] = [[0; 512]; 3];
+    let found = judge(filter, &mut [0; 8192], &mut one, &mut zero, &mut kept).expect("accepted");
     let whole = [1, 0].map(|side| (0..512).all(|a| filter.set[a] == 0 || filter.table[a] == side));
     assert_eq!(found.own_degrees.map(|degree| degree.is_none()), whole, "{filter:?}");
     assert_eq!(found.own_degrees.into_iter().flatten().min(), Some(found.degree), "{filter:?}");

@@ -5,18 +5,28 @@ use independent::rank::{Ranking, column_vectors, columns, eliminate, points_of, 
 use independent::samples::mask_of;
 use independent::span::{Bits, Span, relations};
 
-// Rank of the mask, with a workspace full of ones.
-fn ranked(mask: &[u8], n: usize, d: usize) -> Result<Ranking, u8> {
-    let mut workspace = vec![u64::MAX; 8192];
-    let answer = rank(mask, n, d, &mut workspace);
+// Rank of the mask, with a workspace full of ones: the answer, and the kept points, of which there are as many as the
+// rank. A refusal leaves the mask of the kept points as it was.
+fn ranked(mask: &[u8], n: usize, d: usize) -> Result<(Ranking, Vec<usize>), u8> {
+    let (mut workspace, mut kept) = (vec![u64::MAX; 8192], vec![9; 512]);
+    let answer = rank(mask, n, d, &mut workspace, &mut kept);
     let wanted = if answer.is_ok() { 0 } else { u64::MAX };
     assert!(workspace.iter().all(|word| *word == wanted));
-    answer
+    assert!(kept.iter().all(|x| if answer.is_ok() { *x <= 1 } else { *x == 9 }));
+    let points = points_of(&kept);
+    assert!(answer.is_err() || answer.is_ok_and(|found| found.rank == points.len()));
+    answer.map(|found| (found, points))
 }
 
 #[test]
 fn starred_case_4() {
-    assert_eq!(ranked(&mask_of(2, |_| false), 2, 1), Ok(Ranking { rank: 0, additions: 0 }));
+    assert_eq!(ranked(&mask_of(2, |_| false), 2, 1), Ok((Ranking { rank: 0, additions: 0 }, vec![])));
+}
+
+#[test]
+fn the_set_of_starred_case_5() {
+    let ranks = [0, 1, 2].map(|d| ranked(&mask_of(2, |_| true), 2, d).expect("accepted"));
+    assert_eq!(ranks.map(|(_, kept)| kept), [vec![0], vec![0, 1, 2], vec![0, 1, 2, 3]]);
 }
 
 #[test]
@@ -120,8 +130,12 @@ fn relations_are_a_basis_of_the_choices_of_columns_that_sum_to_zero() {
 #[test]
 fn checks_come_in_order() {
     let (good, broken) = (mask_of(9, |_| true), vec![2; 512]);
-    assert_eq!(rank(&good[1..], 0, 99, &mut [0; 8192]), Err(1));
-    assert_eq!(rank(&good, 0, 99, &mut [0; 8191]), Err(1));
+    assert_eq!(rank(&good[1..], 0, 99, &mut [0; 8192], &mut [0; 512]), Err(1));
+    assert_eq!(rank(&good, 0, 99, &mut [0; 8191], &mut [0; 512]), Err(1));
+    for length in [0, 511, 513] {
+        let mut kept = vec![9; length];
+        assert_eq!((rank(&broken, 0, 99, &mut [0; 8192], &mut kept), kept), (Err(1), vec![9; length]));
+    }
     assert_eq!(ranked(&broken, 0, 99), Err(4));
     assert_eq!(ranked(&broken, 10, 99), Err(4));
     assert_eq!(ranked(&broken, 9, 99), Err(8));

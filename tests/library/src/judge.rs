@@ -14,6 +14,8 @@ unsafe extern "C" {
         one_length: usize,
         zero: *mut u8,
         zero_length: usize,
+        kept: *mut u8,
+        kept_length: usize,
         report: *mut [u32; REPORT],
     ) -> u8;
 }
@@ -51,7 +53,13 @@ fn judgement(report: [u32; REPORT], n: usize) -> Judgement {
 }
 
 // Judge, lent a report of numbers that it does not answer, between two others that stay as they are.
-pub fn judge(filter: Filter, workspace: &mut [u64], one: &mut [u8], zero: &mut [u8]) -> Result<Judgement, u8> {
+pub fn judge(
+    filter: Filter,
+    workspace: &mut [u64],
+    one: &mut [u8],
+    zero: &mut [u8],
+    kept: &mut [u8],
+) -> Result<Judgement, u8> {
     let unwritten: [u32; REPORT] = std::array::from_fn(|i| 0xdead_beef - i as u32);
     let mut reports = [unwritten; 3];
     let status = unsafe {
@@ -67,6 +75,8 @@ pub fn judge(filter: Filter, workspace: &mut [u64], one: &mut [u8], zero: &mut [
             one.len(),
             zero.as_mut_ptr(),
             zero.len(),
+            kept.as_mut_ptr(),
+            kept.len(),
             reports.as_mut_ptr().add(1),
         )
     };

@@ -1,5 +1,6 @@
 // Safe calls of the proved static library. Each answers what the library wrote, or the number of its refusal.
 // Lent buffers may have any length: the library judges it.
+pub mod both; // both.rs: operations of the library and of the independent implementation, compared
 mod certify;
 mod check;
 mod convert;

@@ -8,6 +8,8 @@ unsafe extern "C" {
         d: usize,
         workspace: *mut u64,
         workspace_length: usize,
+        kept: *mut u8,
+        kept_length: usize,
         rank: *mut usize,
         additions: *mut u32,
     ) -> u8;
@@ -16,7 +18,7 @@ unsafe extern "C" {
 const UNWRITTEN: Ranking = Ranking { rank: 0xdead_beef, additions: 0xdead_beef };
 
 // Rank.
-pub fn rank(mask: &[u8], n: usize, d: usize, workspace: &mut [u64]) -> Result<Ranking, u8> {
+pub fn rank(mask: &[u8], n: usize, d: usize, workspace: &mut [u64], kept: &mut [u8]) -> Result<Ranking, u8> {
     let mut answer = UNWRITTEN;
     let status = unsafe {
         ekthavrul_rank(
@@ -26,6 +28,8 @@ pub fn rank(mask: &[u8], n: usize, d: usize, workspace: &mut [u64]) -> Result<Ra
             d,
             workspace.as_mut_ptr(),
             workspace.len(),
+            kept.as_mut_ptr(),
+            kept.len(),
             &mut answer.rank,
             &mut answer.additions,
         )

@@ -1,69 +1,32 @@
 // Judge and Certify of the static library, compared with the independent implementation.
 use independent::faults::{Asked, CERTIFICATE_FAULTS, Fault, lend_faults};
 use independent::filter::Filter;
-use independent::judgement::{Judgement, certify, judge};
-use independent::lent::{MARGIN, lend, margins_stay, middle};
+use independent::judgement::Judgement;
+use independent::lent::{MARGIN, margins_stay, middle};
 use independent::random::Random;
 use independent::samples::{mask_of, pairs};
+use library::both::{CERTIFY_LENGTHS, JUDGE_LENGTHS, certify, judge};
 
 const SIDES: [u8; 2] = [1, 0];
 
-type Judge = fn(Filter, &mut [u64], &mut [u8], &mut [u8]) -> Result<Judgement, u8>;
-type Certify = fn(Filter, u8, usize, &mut [u64], &mut [u64]) -> Result<(), u8>;
-
-// Both Judges with a workspace and witness buffers of these lengths full of random content: the same answer and the
-// same whole buffers; the workspace zero where it is accepted, and every buffer as it was where it is refused. The
-// reported degree is not over the mark.
-fn lend_judge(random: &mut Random, filter: Filter, [workspace, one, zero]: [usize; 3]) -> Result<Judgement, u8> {
-    let entry = (random.words(workspace), [one, zero].map(|length| random.bytes(length)));
-    let [(proved, exit), (plain, plain_exit)] = [library::judge as Judge, judge].map(|judge| {
-        let (mut workspace, [mut one, mut zero]) = entry.clone();
-        let answer = lend(filter, |lent| judge(lent, &mut workspace, &mut one, &mut zero));
-        (answer, (workspace, [one, zero]))
-    });
-    assert_eq!(proved, plain, "Judge of {filter:?}");
-    assert_eq!(exit.1, plain_exit.1, "the witness buffers after Judge of {filter:?}");
-    assert!(exit.0 == plain_exit.0, "the workspace after Judge of {filter:?}");
-    match &proved {
-        Ok(found) => {
-            assert!(exit.0.iter().all(|word| *word == 0), "numbers left in the workspace");
-            assert!(found.degree <= found.mark, "over the mark: Judge of {filter:?}");
-        }
-        Err(number) => assert!(exit == entry, "refusal {number} wrote in a buffer"),
-    }
-    proved
-}
-
-// Both Certifies with a workspace and a certificate of these lengths full of random numbers: the same answer and the
-// same whole buffers; the workspace zero where it is accepted or refused by 12, and else every buffer as it was. Check
-// says yes to what is written, and no to what 12 leaves, the random numbers.
+// Certify, lent buffers of these lengths. Check says yes to what is written, and no to what 12 leaves, the random numbers.
 fn lend_certify(random: &mut Random, filter: Filter, side: u8, d: usize, lengths: [usize; 2]) -> Result<(), u8> {
-    let entry = lengths.map(|length| random.words(length));
-    let [(proved, exit), (plain, plain_exit)] = [library::certify as Certify, certify].map(|certify| {
-        let [mut workspace, mut certificate] = entry.clone();
-        let answer = lend(filter, |lent| certify(lent, side, d, &mut workspace, &mut certificate));
-        (answer, [workspace, certificate])
-    });
-    assert_eq!(proved, plain, "Certify of {filter:?}, side {side}, d = {d}");
-    assert!(exit == plain_exit, "the buffers after Certify of {filter:?}, side {side}, d = {d}");
-    let cleared = matches!(proved, Ok(()) | Err(12));
-    assert!(!cleared || exit[0].iter().all(|word| *word == 0), "numbers left in the workspace");
-    assert!(cleared || exit[0] == entry[0], "a refusal wrote in the workspace");
-    assert!(proved.is_ok() || exit[1] == entry[1], "a refusal wrote in the certificate");
-    let checked = cleared.then(|| library::check(filter, side, d, &exit[1]));
-    let wanted = cleared.then_some(Ok(proved.is_ok()));
+    let (answer, certificate) = certify(random, filter, side, d, lengths);
+    let checkable = matches!(answer, Ok(()) | Err(12));
+    let checked = checkable.then(|| library::check(filter, side, d, &certificate));
+    let wanted = checkable.then_some(Ok(answer.is_ok()));
     assert_eq!(checked, wanted, "Check after Certify of {filter:?}, side {side}, d = {d}");
-    proved
+    answer
 }
 
 // Judge of the filter, and Certify at every side and degree, which refuses exactly where the ranks of Judge differ.
 fn compare(random: &mut Random, n: usize, set: &[u8], table: &[u8]) -> Judgement {
     let filter = Filter { n, set, table };
-    let judgement = lend_judge(random, filter, [8192, 512, 512]).expect("accepted");
+    let (judgement, _) = judge(random, filter, JUDGE_LENGTHS).expect("accepted");
     for (d, side) in (0..=n).flat_map(|d| SIDES.map(|side| (d, side))) {
         let ranks = judgement.ranks[d];
         let equal = ranks[0] == ranks[2 - usize::from(side)];
-        let answer = lend_certify(random, filter, side, d, [8192, 4096]);
+        let answer = lend_certify(random, filter, side, d, CERTIFY_LENGTHS);
         assert_eq!(answer, if equal { Ok(()) } else { Err(12) }, "Certify of {filter:?}, side {side}, d = {d}");
     }
     judgement
@@ -136,7 +99,7 @@ fn starred_case_7() {
 fn filters_of_every_n_whose_own_degrees_are_known() {
     let mut random = Random(15);
     for known in (1..=9).flat_map(|n| random.known(n)).collect::<Vec<_>>() {
-        let judgement = lend_judge(&mut random, known.filter(), [8192, 512, 512]).expect("accepted");
+        let (judgement, _) = judge(&mut random, known.filter(), JUDGE_LENGTHS).expect("accepted");
         assert_eq!(judgement.own_degrees, known.own_degrees, "Judge of {:?}", known.filter());
     }
 }
@@ -145,21 +108,26 @@ fn filters_of_every_n_whose_own_degrees_are_known() {
 const WORKSPACE_FAULTS: [Fault<Asked>; 3] =
     [|call| call.own.workspace = 8191, |call| call.own.workspace = 8193, |call| call.own.workspace = 0];
 
-// What Judge alone checks: the lengths of the witness buffers.
-const JUDGE_FAULTS: [Fault<Asked>; 5] = [
+// What Judge alone checks: the lengths of the witness buffers and of the mask of the kept points.
+const JUDGE_FAULTS: [Fault<Asked>; 10] = [
     |call| call.own.witnesses[0] = 511,
     |call| call.own.witnesses[0] = 513,
     |call| call.own.witnesses[1] = 511,
     |call| call.own.witnesses[1] = 513,
     |call| call.own.witnesses = [0, 1024],
+    |call| call.own.kept = 511,
+    |call| call.own.kept = 513,
+    |call| call.own.kept = 0,
+    |call| call.own.kept = 1,
+    |call| call.own.kept = 1024,
 ];
 
 #[test]
 fn every_refusal_of_judge_and_every_pair_of_them_in_order() {
     let faults = [&WORKSPACE_FAULTS[..], &JUDGE_FAULTS].concat();
     let numbers = lend_faults(12, Asked::good, &faults, |random, call| {
-        let [one, zero] = call.own.witnesses;
-        lend_judge(random, call.filter(), [call.own.workspace, one, zero]).map(|_| ())
+        let ([one, zero], own) = (call.own.witnesses, &call.own);
+        judge(random, call.filter(), [own.workspace, one, zero, own.kept]).map(|_| ())
     });
     assert_eq!(numbers, [0, 1, 4, 6, 8]);
 }
@@ -181,11 +149,12 @@ fn nothing_outside_the_lent_buffers_is_written() {
         let (set, table) = (random.set(n, 0), random.table(n, 0));
         let filter = Filter { n, set: &set, table: &table };
         let words = [8192, 4096].map(|length| random.words(MARGIN + length + MARGIN));
-        let bytes = [512, 512].map(|length| random.bytes(MARGIN + length + MARGIN));
-        let ([mut workspace, mut certificate], [mut one, mut zero]) = (words.clone(), bytes.clone());
-        let judged = library::judge(filter, middle(&mut workspace), middle(&mut one), middle(&mut zero));
+        let bytes = [512; 3].map(|length| random.bytes(MARGIN + length + MARGIN));
+        let ([mut workspace, mut certificate], mut exit) = (words.clone(), bytes.clone());
+        let [one, zero, kept] = exit.each_mut().map(|buffer| middle(buffer));
+        let judged = library::judge(filter, middle(&mut workspace), one, zero, kept);
         assert!(judged.is_ok() && margins_stay(&words[0], &workspace));
-        assert!(margins_stay(&bytes[0], &one) && margins_stay(&bytes[1], &zero));
+        assert!(bytes.iter().zip(&exit).all(|(entry, exit)| margins_stay(entry, exit)));
         let certified = library::certify(filter, 1, 0, middle(&mut workspace), middle(&mut certificate));
         assert!(certified.is_ok() && margins_stay(&words[0], &workspace) && margins_stay(&words[1], &certificate));
     }

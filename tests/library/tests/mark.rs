@@ -1,28 +1,19 @@
 // The mark that Judge of the static library answers, compared with the independent implementation: on every union of
 // weights, on sets whose marks are known, and with every table on two sets.
 use independent::filter::Filter;
-use independent::judgement::{Judgement, judge};
+use independent::judgement::Judgement;
 use independent::random::Random;
 use independent::rank::points_of;
 use independent::samples::{of_weights, pairs};
+use library::both::{JUDGE_LENGTHS, judge};
 use std::ops::Range;
 
 // The kinds of table.
 const TABLES: [usize; 5] = [0, 1, 2, 3, 4];
 
-type Judge = fn(Filter, &mut [u64], &mut [u8], &mut [u8]) -> Result<Judgement, u8>;
-
-// What this Judge answers.
-fn judged(judge: Judge, filter: Filter) -> Judgement {
-    judge(filter, &mut [0; 8192], &mut [0; 512], &mut [0; 512]).expect("accepted")
-}
-
 // What both Judges answer; the reported degree is not over the mark.
 fn compare(n: usize, set: &[u8], table: &[u8]) -> Judgement {
-    let filter = Filter { n, set, table };
-    let found = judged(library::judge, filter);
-    assert_eq!(found, judged(judge, filter), "Judge of {filter:?}");
-    assert!(found.degree <= found.mark, "over the mark: Judge of {filter:?}");
+    let (found, _) = judge(&mut Random(7), Filter { n, set, table }, JUDGE_LENGTHS).expect("accepted");
     found
 }
 
@@ -80,10 +71,11 @@ fn check_tables(n: usize, points: &[usize], mark: usize, step: usize) {
         let mut table = vec![0; 512];
         points.iter().enumerate().for_each(|(i, a)| table[*a] = (bits >> i & 1) as u8);
         let filter = Filter { n, set: &set, table: &table };
-        let found = judged(library::judge, filter);
+        let judged = library::judge(filter, &mut [0; 8192], &mut [0; 512], &mut [0; 512], &mut [0; 512]);
+        let found = judged.expect("accepted");
         let constant = bits == 0 || bits + 1 == 1 << points.len();
         assert_eq!((found.mark, found.degree), (mark, usize::from(!constant)), "Judge of {filter:?}");
-        assert!(bits % step != 0 || found == judged(judge, filter), "Judge of {filter:?}");
+        assert!(bits % step != 0 || found == compare(n, &set, &table), "Judge of {filter:?}");
     }
 }
 

@@ -1,30 +1,16 @@
 // Rank of the static library, compared with the independent implementation.
 use independent::random::Random;
-use independent::rank::{Ranking, columns, rank};
+use independent::rank::{Ranking, columns};
 use independent::samples::{Tally, mask_of, pairs};
-use std::hint::black_box;
+use library::both::{RANK_LENGTHS, rank};
 
-// Both Ranks with a workspace of this length full of random numbers: the same answer and the same whole workspace, the
-// mask as it was; the workspace zero where it is accepted and as it was where it is refused.
-fn lend(random: &mut Random, mask: &[u8], n: usize, d: usize, length: usize) -> Result<Ranking, u8> {
-    let entry = random.words(length);
-    let (mut workspace, mut plain_workspace, lent) = (entry.clone(), entry.clone(), mask.to_vec());
-    let proved = library::rank(black_box(&lent), n, d, &mut workspace);
-    assert_eq!(proved, rank(mask, n, d, &mut plain_workspace), "Rank, n = {n}, d = {d}, mask {mask:?}");
-    assert!(workspace == plain_workspace, "the workspace after Rank, n = {n}, d = {d}, mask {mask:?}");
-    assert_eq!(black_box(&lent), mask, "the mask after Rank");
-    match proved {
-        Ok(_) => assert!(workspace.iter().all(|word| *word == 0), "numbers left in the workspace"),
-        Err(number) => assert!(workspace == entry, "refusal {number} wrote in the workspace"),
-    }
-    proved
-}
-
-// The mask with a workspace of the right length: accepted, and the additions within the bound.
+// The mask with buffers of the right lengths: accepted, the additions within the bound, and as many kept points of the
+// mask as the rank.
 fn accept(random: &mut Random, mask: &[u8], n: usize, d: usize) -> Ranking {
-    let found = lend(random, mask, n, d, 8192).expect("accepted");
-    let (m, r) = (mask.iter().filter(|x| **x == 1).count(), found.rank);
+    let (found, kept) = rank(random, mask, n, d, RANK_LENGTHS).expect("accepted");
+    let [m, r] = [mask, &kept].map(|mask| mask.iter().filter(|x| **x == 1).count());
     assert!(found.additions as usize <= m * r - r * (r + 1) / 2, "n = {n}, d = {d}, mask {mask:?}");
+    assert_eq!(found.rank, r, "the number of kept points, n = {n}, d = {d}, mask {mask:?}");
     found
 }
 
@@ -91,8 +77,9 @@ fn every_refusal_and_every_pair_of_them_in_order() {
     for (n, length) in pairs(&[0, 1, 2, 4, 7, 8, 9, 10, 64, usize::MAX], &[0, 1, 511, 512, 513, 1024]) {
         for mask in random.lent_masks(n, length) {
             let degrees = [0, 1, n, n.wrapping_add(1), 10, 64, usize::MAX];
-            for (d, length) in pairs(&degrees, &[0, 1, 8191, 8192, 8193]) {
-                tally.count(lend(&mut random, &mask, n, d, length));
+            let lengths = pairs(&[0, 1, 8191, 8192, 8193], &[0, 1, 511, 512, 513, 1024]);
+            for (d, (workspace, kept)) in pairs(&degrees, &lengths) {
+                tally.count(rank(&mut random, &mask, n, d, [workspace, kept]));
             }
         }
     }

@@ -8,12 +8,11 @@
 use independent::certificate::turn;
 use independent::check::check;
 use independent::filter::Filter;
-use independent::judgement::{Judgement, certify, judge};
 use independent::normal_form::weight;
 use independent::random::Random;
-use independent::rank::{Ranking, points_of, rank};
+use independent::rank::points_of;
 use independent::samples::mask_of;
-use std::fmt::Arguments;
+use library::both::{CERTIFY_LENGTHS, JUDGE_LENGTHS, RANK_LENGTHS, certify, judge, rank};
 
 const N: usize = 9;
 
@@ -29,65 +28,37 @@ fn filters() -> impl Iterator<Item = (usize, [Vec<u8>; 2])> {
     (0..1 << N).map(|u| (u, masks(u)))
 }
 
-// What is answered and left, which is the same of the library and of the independent implementation.
-fn agreed<A: PartialEq>(asked: Arguments, [proved, plain]: [A; 2]) -> A {
-    assert!(proved == plain, "the library and the independent implementation differ: {asked}");
-    proved
-}
-
 #[test]
 fn rank_has_a_column_for_each_exponent_from_its_weight_on() {
-    type Rank = fn(&[u8], usize, usize, &mut [u64]) -> Result<Ranking, u8>;
     let mut random = Random(1);
     for (u, masks) in filters() {
         for d in 0..=N {
-            let garbage = random.words(8192);
-            let ranked = |mask: &[u8]| {
-                let both = [library::rank as Rank, rank].map(|rank| {
-                    let mut workspace = garbage.clone();
-                    (rank(mask, N, d, &mut workspace).expect("accepted"), workspace)
-                });
-                agreed(format_args!("the exponent {u}, d = {d}"), both).0.rank
-            };
-            let [all, others] = masks.each_ref().map(|mask| ranked(mask));
-            assert_eq!(all - others, usize::from(weight(u) <= d), "the exponent {u}, d = {d}");
+            let ranked = masks.each_ref().map(|mask| rank(&mut random, mask, N, d, RANK_LENGTHS).expect("accepted"));
+            let [(all, kept), (others, _)] = ranked;
+            assert_eq!(all.rank - others.rank, usize::from(weight(u) <= d), "the exponent {u}, d = {d}");
+            assert_eq!(usize::from(kept[u]), all.rank - others.rank, "the point {u}, d = {d}");
         }
     }
 }
 
 #[test]
 fn judge_gives_it_as_the_degree_of_side_1() {
-    type Judge = fn(Filter, &mut [u64], &mut [u8], &mut [u8]) -> Result<Judgement, u8>;
     let mut random = Random(2);
     for (u, [set, table]) in filters() {
-        let (garbage, [one, zero]) = (random.words(8192), [(); 2].map(|_| random.bytes(512)));
-        let both = [library::judge as Judge, judge].map(|judge| {
-            let (mut workspace, mut one, mut zero) = (garbage.clone(), one.clone(), zero.clone());
-            let answer = judge(Filter { n: N, set: &set, table: &table }, &mut workspace, &mut one, &mut zero);
-            (answer.expect("accepted"), workspace, one, zero)
-        });
-        assert_eq!(
-            agreed(format_args!("the exponent {u}"), both).0.own_degrees[0],
-            Some(weight(u)),
-            "the exponent {u}"
-        );
+        let filter = Filter { n: N, set: &set, table: &table };
+        let (found, _) = judge(&mut random, filter, JUDGE_LENGTHS).expect("accepted");
+        assert_eq!(found.own_degrees[0], Some(weight(u)), "the exponent {u}");
     }
 }
 
 #[test]
 fn certify_accepts_below_it_and_refuses_by_12_from_it_on() {
-    type Certify = fn(Filter, u8, usize, &mut [u64], &mut [u64]) -> Result<(), u8>;
     let mut random = Random(3);
     for (u, [set, table]) in filters() {
         for d in 0..=N {
-            let (garbage, numbers) = (random.words(8192), random.words(4096));
-            let both = [library::certify as Certify, certify].map(|certify| {
-                let (mut workspace, mut certificate) = (garbage.clone(), numbers.clone());
-                let filter = Filter { n: N, set: &set, table: &table };
-                (certify(filter, 1, d, &mut workspace, &mut certificate), workspace, certificate)
-            });
-            let wanted = if d < weight(u) { Ok(()) } else { Err(12) };
-            assert_eq!(agreed(format_args!("the exponent {u}, d = {d}"), both).0, wanted, "the exponent {u}, d = {d}");
+            let filter = Filter { n: N, set: &set, table: &table };
+            let (answer, _) = certify(&mut random, filter, 1, d, CERTIFY_LENGTHS);
+            assert_eq!(answer, if d < weight(u) { Ok(()) } else { Err(12) }, "the exponent {u}, d = {d}");
         }
     }
 }

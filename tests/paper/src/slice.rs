@@ -57,7 +57,8 @@ impl Slice {
 
     // The mark, the bound for sets, which Judge of the proved library answers with every table.
     pub fn mark(&self) -> usize {
-        let judged = library::judge(self.filter(&[0; 512]), &mut [0; 8192], &mut [0; 512], &mut [0; 512]);
+        let [mut one, mut zero, mut kept] = [[0; 512]; 3];
+        let judged = library::judge(self.filter(&[0; 512]), &mut [0; 8192], &mut one, &mut zero, &mut kept);
         judged.expect("accepted").mark
     }
 }

@@ -1,23 +1,18 @@
 // The figures that are exact, by the proved library and by the independent implementation: tables 2a and 3a, the row of
 // [CMR17] at eight taps in table 4, and the upper bounds in table 5.
-use independent::filter::Filter;
-use independent::judgement::{Judgement, judge};
+use independent::judgement::Judgement;
 use independent::named::{perfectly_balanced, tap};
 use independent::random::Random;
 use independent::samples::mask_of;
+use library::both::{JUDGE_LENGTHS, judge};
 use paper::construction::construction;
 use paper::figures::{BOUNDS, CONSTRUCTION, FOUR_TAPS};
 use paper::slice::Slice;
 
-type Judge = fn(Filter, &mut [u64], &mut [u8], &mut [u8]) -> Result<Judgement, u8>;
-
 // The degree of the table on the slice, at most the mark; both Judges answer alike.
 fn degree(slice: &Slice, table: &[u8]) -> usize {
-    let answer = |judge: Judge| judge(slice.filter(table), &mut [0; 8192], &mut [0; 512], &mut [0; 512]);
-    let found = answer(library::judge);
-    assert_eq!(found, answer(judge), "n = {}, weight {}", slice.n, slice.k);
-    let Judgement { degree, mark, .. } = found.expect("accepted");
-    assert!(degree <= mark, "n = {}, weight {}: over the mark", slice.n, slice.k);
+    let judged = judge(&mut Random(2), slice.filter(table), JUDGE_LENGTHS);
+    let (Judgement { degree, mark, .. }, _) = judged.expect("accepted");
     assert_eq!(mark, slice.mark(), "n = {}, weight {}: another mark with another table", slice.n, slice.k);
     degree
 }

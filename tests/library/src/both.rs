@@ -1,0 +1,116 @@
+// Rank, Judge and Certify of the static library and of the independent implementation, compared: each is lent its own copy
+// of the same buffers, full of random content, and both answer and leave the same.
+use independent::filter::Filter;
+use independent::judgement::{self, Judgement};
+use independent::lent::lend;
+use independent::random::Random;
+use independent::rank::{self, Ranking};
+use std::fmt::{Arguments, Debug};
+use std::hint::black_box;
+
+type Rank = fn(&[u8], usize, usize, &mut [u64], &mut [u8]) -> Result<Ranking, u8>;
+type Judge = fn(Filter, &mut [u64], &mut [u8], &mut [u8], &mut [u8]) -> Result<Judgement, u8>;
+type Certify = fn(Filter, u8, usize, &mut [u64], &mut [u64]) -> Result<(), u8>;
+
+// The lengths that are accepted. Rank: the workspace, the mask of the kept points. Judge: the workspace, the witness
+// buffers of side 1 and side 0, the mask of the kept points. Certify: the workspace, the certificate.
+pub const RANK_LENGTHS: [usize; 2] = [8192, 512];
+pub const JUDGE_LENGTHS: [usize; 4] = [8192, 512, 512, 512];
+pub const CERTIFY_LENGTHS: [usize; 2] = [8192, 4096];
+
+// The buffers that an operation writes to: of numbers, the first of them the workspace, and of bytes.
+#[derive(Clone)]
+struct Buffers<const W: usize, const B: usize> {
+    words: [Vec<u64>; W],
+    bytes: [Vec<u8>; B],
+}
+
+impl<const W: usize, const B: usize> Buffers<W, B> {
+    // Buffers of these lengths, full of random content.
+    fn garbage(random: &mut Random, words: [usize; W], bytes: [usize; B]) -> Buffers<W, B> {
+        Buffers { words: words.map(|length| random.words(length)), bytes: bytes.map(|length| random.bytes(length)) }
+    }
+
+    // Acceptance and 12 leave the workspace zero. A refusal leaves all else as it was at entry.
+    fn check<A>(&self, entry: &Buffers<W, B>, answer: &Result<A, u8>, asked: Arguments) {
+        let cleared = matches!(answer, Ok(_) | Err(12));
+        assert!(!cleared || self.words[0].iter().all(|word| *word == 0), "numbers left in the workspace: {asked}");
+        assert!(cleared || self.words[0] == entry.words[0], "a refusal wrote in the workspace: {asked}");
+        let stay = self.words[1..] == entry.words[1..] && self.bytes == entry.bytes;
+        assert!(answer.is_ok() || stay, "a refusal wrote in a buffer: {asked}");
+    }
+}
+
+// What both operations answer and leave.
+fn agreed<F, A: PartialEq + Debug, const W: usize, const B: usize>(
+    both: [F; 2],
+    entry: Buffers<W, B>,
+    asked: Arguments,
+    call: impl Fn(F, &mut Buffers<W, B>) -> Result<A, u8>,
+) -> (Result<A, u8>, Buffers<W, B>) {
+    let [(proved, exit), (plain, plain_exit)] = both.map(|operation| {
+        let mut lent = entry.clone();
+        (call(operation, &mut lent), lent)
+    });
+    assert_eq!(proved, plain, "{asked}");
+    assert_eq!(exit.bytes, plain_exit.bytes, "the buffers of bytes: {asked}");
+    assert!(exit.words == plain_exit.words, "the buffers of numbers: {asked}");
+    exit.check(&entry, &proved, asked);
+    (proved, exit)
+}
+
+// Rank, lent buffers of these lengths: the answer, and the mask of the kept points. The mask that is ranked is as it was.
+pub fn rank(
+    random: &mut Random,
+    mask: &[u8],
+    n: usize,
+    d: usize,
+    [workspace, kept]: [usize; 2],
+) -> Result<(Ranking, Vec<u8>), u8> {
+    let (both, entry) = ([crate::rank as Rank, rank::rank], Buffers::garbage(random, [workspace], [kept]));
+    let asked = format_args!("Rank, n = {n}, d = {d}, mask {mask:?}");
+    let (answer, exit) = agreed(both, entry, asked, |rank, Buffers { words: [workspace], bytes: [kept] }| {
+        let lent = mask.to_vec();
+        let answer = rank(black_box(&lent), n, d, workspace, kept);
+        assert_eq!(black_box(&lent), mask, "the mask at exit");
+        answer
+    });
+    let [kept] = exit.bytes;
+    answer.map(|found| (found, kept))
+}
+
+// Judge, lent buffers of these lengths: the answer, and the mask of the kept points. The reported degree is not over the
+// mark.
+pub fn judge(
+    random: &mut Random,
+    filter: Filter,
+    [workspace, one, zero, kept]: [usize; 4],
+) -> Result<(Judgement, Vec<u8>), u8> {
+    let both = [crate::judge as Judge, judgement::judge];
+    let entry = Buffers::garbage(random, [workspace], [one, zero, kept]);
+    let (answer, exit) = agreed(both, entry, format_args!("Judge of {filter:?}"), |judge, lent| {
+        let Buffers { words: [workspace], bytes: [one, zero, kept] } = lent;
+        lend(filter, |filter| judge(filter, workspace, one, zero, kept))
+    });
+    let [_, _, kept] = exit.bytes;
+    let found = answer?;
+    assert!(found.degree <= found.mark, "over the mark: Judge of {filter:?}");
+    Ok((found, kept))
+}
+
+// Certify, lent buffers of these lengths: the answer, and what stands in the certificate at exit.
+pub fn certify(
+    random: &mut Random,
+    filter: Filter,
+    side: u8,
+    d: usize,
+    lengths: [usize; 2],
+) -> (Result<(), u8>, Vec<u64>) {
+    let (both, entry) = ([crate::certify as Certify, judgement::certify], Buffers::garbage(random, lengths, []));
+    let asked = format_args!("Certify of {filter:?}, side {side}, d = {d}");
+    let (answer, exit) = agreed(both, entry, asked, |certify, Buffers { words: [workspace, certificate], .. }| {
+        lend(filter, |filter| certify(filter, side, d, workspace, certificate))
+    });
+    let [_, certificate] = exit.words;
+    (answer, certificate)
+}
