@@ -136,6 +136,11 @@ impl<'a> Basis<'a> {
         self.points[self.rank] = a as u16;
     }
 
+    // The kept rows with their pivots and points, in the order kept.
+    pub fn named_rows(&self) -> impl Iterator<Item = (&Row, u16, usize)> {
+        self.rows().zip(&self.points).map(|((row, c), a)| (row, c, usize::from(*a)))
+    }
+
     // How many of the pivots are among the first `columns` columns.
     pub fn pivots_below(&self, columns: usize) -> usize {
         self.pivots[..self.rank].iter().filter(|c| usize::from(**c) < columns).count()

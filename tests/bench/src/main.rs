@@ -86,6 +86,19 @@ fn compare_judges() {
     println!("Judge of {} filters of one to nine taps: every contender gives the proved answer", kinds().len());
 }
 
+// Certify of each side of such filters at each degree, once by each contender: the same answers.
+fn compare_certifies() {
+    let (mut random, mut answers) = (Random(6), Vec::new());
+    for (n, (for_set, for_table)) in kinds() {
+        let (set, table) = (random.set(n, for_set), random.table(n, for_table));
+        let asked = (0..=n).flat_map(|d| [(1, d), (0, d)]);
+        let inputs = asked.map(|(side, d)| certifies(Filter { n, set: &set, table: &table }, side, d));
+        answers.extend(race(1, &inputs.collect::<Vec<_>>()).iter().map(|((answer, _), _)| *answer));
+    }
+    let accepted = answers.iter().filter(|answer| answer.is_ok()).count();
+    println!("Certify {} times, {accepted} of them accepted: every contender gives the proved answer", answers.len());
+}
+
 // Check of every certificate of Certify of such filters, as it is and with a bit changed, once by each contender: the
 // same answers.
 fn compare_checks() {
@@ -188,6 +201,7 @@ fn main() {
         "proved: the static library; Rust and C: the same algorithms at -O3; ratio: the proved time over the other"
     );
     compare_judges();
+    compare_certifies();
     compare_checks();
     bench_rank("all 512 points", &all);
     bench_rank("a random half", &half);
