@@ -9,6 +9,8 @@
  * of the others for a point.
  * S is the set and f the table. Part 1 is the points of S where f is 1, part 0 those where it is 0; side 1 has part 1,
  * and side 0 has part 0.
+ * The row of a point at degree d has a column for each exponent with at most d ones: 1 where each one of the exponent is a
+ * one of the point, else 0; rows are added modulo 2.
  * A point of a mask is kept at degree d if its row at d is no sum of the rows of smaller points of the mask. There are as
  * many kept points as the rank at d, and they alone have that rank.
  *

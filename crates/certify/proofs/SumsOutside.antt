@@ -1,7 +1,7 @@
 -- The sums of the points outside a part.
 --   sums-none       no point is passed yet
---   sums-no         it is not
---   sums-yes        the next point is in the set and outside the part, and nothing is left of its row
+--   sums-no         the next point is not in the set, or in the part
+--   sums-yes        it is in the set and outside the part, and nothing is left of its row
 --   no-sum          or something is
 use mathlib.Core.Path.{_≡_, refl, sym, ap, ap₂, _∙_}
 use mathlib.Core.Bool.{true, false, false≢true}

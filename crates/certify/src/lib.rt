@@ -13,7 +13,7 @@ ghost use Rattle.order.specs.BuiltIn.{graded};
 ghost use Rattle.packed.specs.Packed.{unpacked};
 ghost use Rattle.point_rows.specs.Workspace.{exponents, RowsFrom};
 ghost use Rattle.certify.specs.Certify.{certifyInputs, certifyOutcome, CertifyContract, PartKept};
-use crate::sums::kept_sums;
+use crate::sums::combine_kept;
 use crate::sums::write_certificate;
 use cube::POINTS;
 use filter::checks::check_degree;
@@ -108,7 +108,7 @@ fn certify_points(
     let part = part_mask(set, table, side);
     fill_rows(workspace, order, n);
     let kept = part_kept(workspace, order, &part, n, d);
-    if !kept_sums(workspace, order, set, &part, &kept, n, d) {
+    if !combine_kept(workspace, order, set, &part, &kept, n, d) {
         clear(workspace);
         return CertifyAnswer::Refused(Refusal::RanksDiffer);
     }
@@ -117,8 +117,8 @@ fn certify_points(
     CertifyAnswer::Accepted
 }
 
-// The kept points of a part at degree `d` as a mask, which Rank's function fills. The first 512 rows of the workspace are
-// scratch, and the others, the rows of points, stay.
+// The kept points of a part at degree `d` as a mask, filled by the function that fills Rank's. The first 512 rows of the
+// workspace are scratch, and the others, the rows of points, stay.
 fn part_kept(ws: &mut [u64], order: &[u16], part: &[u8], n: usize, d: usize) -> [u8; 512]
     requires { ⌜ (length (now ws) ≡ 8192) × (length (now part) ≡ 512) × Graded (now order) × (n ≤ 9) × (d ≤ n)
         × Inside (size n) (points (now part)) × RowsFrom (exponents (now order) n) n (unpacked (now ws)) 0 ⌝ }

@@ -86,7 +86,7 @@ fn combine_outside(
 // For each point of `set` outside `part` the points of the part whose rows sum to its row are put in its place, where
 // `kept` marks the kept points of the part: the combinations are over these alone. The result is whether the ranks of the
 // set and the part at degree `d` are equal: where they differ, some row is no such sum, and the workspace is scratch.
-pub fn kept_sums(
+pub fn combine_kept(
     ws: &mut [u64],
     order: &[u16],
     set: &[u8],

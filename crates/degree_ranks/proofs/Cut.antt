@@ -1,6 +1,6 @@
 -- The ranks of the rows in the places of points are those of the points, and so are the additions and the kept points.
 --   counts-few      no degree has more than 512 columns
---   kept-cut        the kept points are those of the definition
+--   points-at-degree        the kept points are those of the definition
 --   ranks-cut       the ranks are those of the points
 --   additions-cut   so are the additions
 --   ranks-joined    the ranks of a set and of its parts, side by side
@@ -54,8 +54,8 @@ module _ {o : List ℕ} {n : ℕ} {ws s : List ℕ} (r : Ready o n ws) (m : Mark
   eliminated-at d l = stored-elimination (r .ordered) n d (r .small) l (unpacked ws) (r .rows) (points s) (m .inside)
 
   -- the kept points are those of the definition
-  pub kept-cut : (d : ℕ) → d ≤ n → eliminate (stored (unpacked ws) (columnCount o n d)) (points s) .points ≡ keptPoints o n d (points s)
-  kept-cut d l = ap (λ (x : Elimination). x .points) (eliminated-at d l)
+  pub points-at-degree : (d : ℕ) → d ≤ n → eliminate (stored (unpacked ws) (columnCount o n d)) (points s) .points ≡ keptPoints o n d (points s)
+  points-at-degree d l = ap (λ (x : Elimination). x .points) (eliminated-at d l)
 
   module _ {cs : List ℕ} (counted : cs ≡ columnCounts o n) where
     -- the same where the columns are counted

@@ -32,7 +32,7 @@ use Rattle.matrix.specs.Kept.{keptMask}
 use Rattle.matrix.specs.declared.rank.Ranked.{Ranked}
 use Rattle.matrix.specs.declared.rank.RankAnswer.{RankAnswer}
 use Rattle.matrix.specs.declared.rank.RankAnswer.the-variants as rank
-use Rattle.matrix.specs.Rank.{Ranking, ranking, rankingOf as rankingWith, rankOutcome, outcomeOf as rankingOf, RankContract}
+use Rattle.matrix.specs.Rank.{Ranking, ranking, rankingOf, rankOutcome, outcomeOf as rankOutcomeOf, RankContract}
 use Rattle.matrix.proofs.KeptMask.{kept-long, kept-formed, kept-marked, kept-as-many, kept-again}
 use Rattle.matrix.proofs.RankOf.{rank-of, rank-accepts, passed}
 use Rattle.matrix.proofs.Ranked.{Passes, rank-passed}
@@ -100,8 +100,8 @@ module _ (n d : ℕ) (ps : List ℕ) (tapped : taps n ≡ true) (low : d ≤ n) 
 
 module _ (b : List ℕ) (n d : ℕ) (ws ws′ m m′ : List ℕ) (r : Ranked) (h : RankContract (rankOutcome graded b n d (length ws) (length m)) ws ws′ m m′ (rank.Accepted r)) where
   -- what Rank accepted passed its checks, and is the definition's
-  rank-shown : Passes b n d (length ws) (length m) × (ranking graded n d (points b) ≡ rankingWith r m′)
-  rank-shown = let (checked, is) = passed graded b n d (length ws) (length m) (rankingWith r m′) (sym (h .answers)) in (rank-passed b n d (length ws) (length m) checked, is)
+  rank-shown : Passes b n d (length ws) (length m) × (ranking graded n d (points b) ≡ rankingOf r m′)
+  rank-shown = let (checked, is) = passed graded b n d (length ws) (length m) (rankingOf r m′) (sym (h .answers)) in (rank-passed b n d (length ws) (length m) checked, is)
 
   -- the mask that it leaves is that of the definition
   rank-left : keptMask graded n d (points b) ≡ m′
@@ -136,10 +136,10 @@ module _ (b : List ℕ) (n d : ℕ) (ws ws′ m m′ : List ℕ) (r : Ranked) (h
           let (x, y) = kept-again graded n d (points b) (p .few-taps) (points-rising b) (points-inside n b (p .formed)) in
           (ap (λ z. rankOf graded n d (points z)) (sym rank-left) ∙ x, ap (λ z. keptMask graded n d (points z)) (sym rank-left) ∙ y ∙ rank-left)
 
-      go : (y : RankAnswer) → rankingOf y l′ ≡ accepted (ranking graded n d (points m′)) → (x : Ranked) × (y ≡ rank.Accepted x) × (x .rank ≡ r .rank) × (l′ ≡ m′)
+      go : (y : RankAnswer) → rankOutcomeOf y l′ ≡ accepted (ranking graded n d (points m′)) → (x : Ranked) × (y ≡ rank.Accepted x) × (x .rank ≡ r .rank) × (l′ ≡ m′)
       go (rank.Refused z) e = absurd (not-both e)
       go (rank.Accepted x) e =
-          let is : rankingWith x l′ ≡ ranking graded n d (points m′) = ap (λ (o : Outcome Ranking). leftBy o (rankingWith x l′) (λ z. z)) e in
+          let is : rankingOf x l′ ≡ ranking graded n d (points m′) = ap (λ (o : Outcome Ranking). leftBy o (rankingOf x l′) (λ z. z)) e in
           (x, refl, ap (λ (z : Ranking). z .rank) is ∙ same .0 ∙ rank-answered, ap (λ (z : Ranking). z .kept) is ∙ same .1)
 
 -- a length before one that is wrong

@@ -133,7 +133,7 @@ pub record RankWords : Type 0 where
   pub kept-rise : (n d : ℕ) (ps : List ℕ) → Rising ps → Rising (eliminated graded n d ps .points)
   -- the rank of any points is the number kept
   pub number-kept : (n d : ℕ) (ps : List ℕ) (r : ℕ) → Rank (rows graded n d ps) r ↔ (r ≡ length (eliminated graded n d ps .kept))
-  -- so is the rank that Rank answers, its additions are those of the elimination, and its mask marks the points of that
+  -- so is the rank that Rank answers, its additions are those of the elimination, and its mask marks the points that are kept
   pub rank-kept : (b : List ℕ) (n d : ℕ) (r : Ranking) → RankAccepts b n d r → let e : Elimination = eliminated graded n d (points b) in
       (r .rank ≡ length (e .kept)) × (r .rank ≡ length (e .points)) × (r .additions ≡ e .additions) × (r .kept ≡ mask (lists (e .points)))
   -- an empty mask is accepted: 0 and 0, and no point is kept

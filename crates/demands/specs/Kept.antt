@@ -20,7 +20,7 @@ use Rattle.point_rows.specs.Rows.{row, rows}
 use Rattle.matrix.specs.declared.rank.Ranked.{Ranked}
 use Rattle.matrix.specs.declared.rank.RankAnswer.{RankAnswer}
 use Rattle.matrix.specs.declared.rank.RankAnswer.the-variants as rank
-use Rattle.matrix.specs.Rank.{Ranking, rankOutcome, outcomeOf as rankingOf, RankContract}
+use Rattle.matrix.specs.Rank.{Ranking, rankOutcome, outcomeOf as rankOutcomeOf, RankContract}
 use Rattle.filter.specs.Sides.{Sides}
 use Rattle.filter.specs.Part.{part}
 use Rattle.immunity.specs.Ranks.{noRanks}
@@ -28,7 +28,7 @@ use Rattle.immunity.specs.Certificate.{bitOf}
 use Rattle.judge.specs.declared.JudgeAnswer.{JudgeAnswer}
 use Rattle.judge.specs.declared.Report.{Report}
 use Rattle.judge.specs.declared.Finding.the-variants as finding
-use Rattle.judge.specs.Judge.{judgeOutcome, outcomeOf as judgingOf, JudgeContract}
+use Rattle.judge.specs.Judge.{judgeOutcome, outcomeOf as judgeOutcomeOf, JudgeContract}
 use Rattle.certify.specs.Certify.{certifyInputs, PartKept, CertifyAccepts}
 use Rattle.demands.specs.Demands.{RankAccepts}
 use Rattle.demands.specs.JudgementWords.{SameRank}
@@ -67,7 +67,7 @@ pub record KeptMasks : Type 0 where
       → RankContract (rankOutcome graded b n d (length ws) (length m)) ws ws′ m m′ (rank.Refused x) → m′ ≡ m
   -- a mask of another length it refuses by 1, whatever else it is lent
   pub rank-length : (b : List ℕ) (n d : ℕ) (ws ws′ m m′ : List ℕ) (a : RankAnswer) → length m ≢ 512
-      → RankContract (rankOutcome graded b n d (length ws) (length m)) ws ws′ m m′ a → rankingOf a m′ ≡ refused 1
+      → RankContract (rankOutcome graded b n d (length ws) (length m)) ws ws′ m m′ a → rankOutcomeOf a m′ ≡ refused 1
   -- Judge accepts: what it leaves in the mask, whatever that held, marks the kept points of S at the reported degree, as many as the rank that it gives there,
   pub judge-marks : (n : ℕ) (s f ws ws′ : List ℕ) (w w′ : Sides (List ℕ)) (m m′ : List ℕ) (a : JudgeAnswer) (r : Report)
       → JudgeContract (judgeOutcome graded s f n (length ws) (length (w .one)) (length (w .zero)) (length m)) ws ws′ w w′ m m′ a → a .finding ≡ finding.Judged r
@@ -82,8 +82,8 @@ pub record KeptMasks : Type 0 where
       → m′ ≡ m
   -- a mask of another length it refuses by 1, whatever else it is lent
   pub judge-length : (n : ℕ) (s f ws ws′ : List ℕ) (w w′ : Sides (List ℕ)) (m m′ : List ℕ) (a : JudgeAnswer) → length m ≢ 512
-      → JudgeContract (judgeOutcome graded s f n (length ws) (length (w .one)) (length (w .zero)) (length m)) ws ws′ w w′ m m′ a → judgingOf a w′ m′ ≡ refused 1
-  -- where Certify's checks of its inputs pass, the mask that it goes by (what `part_kept` answers for a mask b of the part) marks the kept points of the part at d,
+      → JudgeContract (judgeOutcome graded s f n (length ws) (length (w .one)) (length (w .zero)) (length m)) ws ws′ w w′ m m′ a → judgeOutcomeOf a w′ m′ ≡ refused 1
+  -- where Certify's checks of its inputs pass, the mask that it goes by (what `part_kept` answers for a mask b of the part, and `combine_kept` asks for) marks the kept points of the part at d,
   pub certify-marks : (n : ℕ) (s f : List ℕ) (side d k l : ℕ) (b m : List ℕ) → verdict (certifyInputs s f n side d k l) ≡ Passed
       → points b ≡ part side s f → PartKept graded n d b m → KeptWords n d (part side s f) m
   -- it is the mask that Rank leaves for the part at d,

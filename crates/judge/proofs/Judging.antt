@@ -3,7 +3,7 @@
 --   first-given       the first degree whose ranks pass a test, of the ranks found and of the definition's
 --   first-reported    the first degree at which they differ is the reported one
 --   side-none         where the ranks of the set and of a side's part are equal, the part has no new point
---   kept-marked       where the points with pivots in the columns of a degree are marked, the mask is that of the points kept there
+--   mask-reported       where the points with pivots in the columns of a degree are marked, the mask is that of the points kept there
 --   judgement-found   what is found and reported is the judgement
 --   in-order          what is answered and left in an equal order
 --   refuses           a broken check
@@ -134,10 +134,10 @@ module _ (o : List ℕ) (n : ℕ) (ss : List ℕ) (ps : Sides (List ℕ)) (risin
         (sym (ap (λ (r : Ranks). r .set) ranks-at) ∙ e ∙ ap (λ (r : Ranks). ofSide side (parts r)) ranks-at ∙ of-mapped (rankOf o n k) ps side)
 
 -- where the points with pivots in the columns of a degree are marked, the mask is that of the points kept there
-pub kept-marked : (o : List ℕ) (n : ℕ) (pivots qs ss : List ℕ) → ((d : ℕ) → d ≤ n → pointsBelow (columnCount o n d) pivots qs ≡ keptPoints o n d ss)
+pub mask-reported : (o : List ℕ) (n : ℕ) (pivots qs ss : List ℕ) → ((d : ℕ) → d ≤ n → pointsBelow (columnCount o n d) pivots qs ≡ keptPoints o n d ss)
     → {k c : ℕ} → k ≤ n → c ≡ columnCount o n k → {m : List ℕ} → m ≡ mask (lists (pointsBelow c pivots qs)) → m ≡ keptMask o n k ss
 unfolding keptMask
-kept-marked o n pivots qs ss h {k} l e g = g ∙ ap (λ c. mask (lists (pointsBelow c pivots qs))) e ∙ ap (λ x. mask (lists x)) (h k l)
+mask-reported o n pivots qs ss h {k} l e g = g ∙ ap (λ c. mask (lists (pointsBelow c pivots qs))) e ∙ ap (λ x. mask (lists x)) (h k l)
 
 -- judgements are equal by parts
 judgement-by : {xs ys : List Ranks} {m i k j : Option ℕ} {a b c d : ℕ} {ks js : Sides (Option ℕ)} {v w : Sides (List ℕ)} {p q : List ℕ}

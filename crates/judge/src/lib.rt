@@ -64,7 +64,7 @@ pub struct JudgeAnswer {
 
 // The ranks of the set and its parts at each degree, the mark, the first degree at which a part's rank differs from the
 // set's, each side's own such degree, and the witness of each side that differs at the first; for a set and a table of
-// `n` taps. `kept` then marks the kept points of the set at the first such degree.
+// `n` taps. `kept` then marks the kept points of the set at the first degree of all, the reported one.
 pub fn judge(
     set: &[u8],
     table: &[u8],

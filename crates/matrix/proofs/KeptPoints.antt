@@ -3,6 +3,7 @@
 --   kept-at-yes     the next number is a point of the mask
 --   kept-at-no      it is not
 --   taken-count     how many rows are kept
+--   Wide t          each row has 512 columns
 --   whole-count     the same where the rows are taken whole, whatever the number of columns
 --   kept-at-below   the kept points of the first columns are those whose pivots are there
 --   kept-at-all     all are kept of all columns

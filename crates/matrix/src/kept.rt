@@ -1,4 +1,4 @@
-// The kept points of an elimination as a mask: docs/SPECIFICATION.md, 'Elimination'.
+// The kept points of an elimination as a mask, and the clearing of bytes: docs/SPECIFICATION.md, 'Elimination'.
 ghost use mathlib.Core.Path.{_≡_};
 ghost use Prim.Native.Nat.{ℕ, _≤_, _<_};
 ghost use lib.ListN.{length, getD, take};

@@ -70,7 +70,7 @@ fn keep_new(ws: &mut [u64], pivots: &mut [u16], set: &[u8], kept: usize, columns
 }
 
 // The witness against the points of `part` of the set at degree `d` is written; zeros where every row of the set is a sum
-// of rows of the part. The points that are kept of it are not needed: `points` is scratch.
+// of rows of the part.
 fn write_witness(
     ws: &mut [u64],
     order: &[u16],
@@ -88,7 +88,7 @@ fn write_witness(
 {
     clear_bytes(witness);
     let mut pivots = [0u16; COLUMNS];
-    let mut points = [0u16; COLUMNS];
+    let mut points = [0u16; COLUMNS]; // of the rows kept of the part; not read here
     let most = d as u16;
     let columns = column_count(order, n, most);
     let t = eliminate(ws, &mut pivots, &mut points, part, columns);

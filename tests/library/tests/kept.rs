@@ -21,7 +21,7 @@ fn within(first: &[u8], second: &[u8]) -> bool {
 }
 
 // The kept points of the mask at degree d are points of the mask, as many as the rank. Ranked again they have that rank,
-// all of them are kept, and so is every one at each higher degree.
+// and all of them are kept; and each of them is kept of the mask at every higher degree.
 fn check_again(random: &mut Random, mask: &[u8], n: usize, d: usize) -> Vec<u8> {
     let (found, kept) = rank(random, mask, n, d, RANK_LENGTHS).expect("accepted");
     assert!(within(&kept, mask), "kept outside the mask: n = {n}, d = {d}, mask {mask:?}");

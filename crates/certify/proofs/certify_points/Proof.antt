@@ -1,4 +1,4 @@
--- The sums over the part's kept points tell whether the ranks are equal (kept_sums): where they differ Certify refuses, else what is written is the certificate.
+-- The sums over the part's kept points tell whether the ranks are equal (combine_kept): where they differ Certify refuses, else what is written is the certificate.
 use borrow.Author.Needs.{needs}
 use mathlib.Core.Path.{_≡_, refl, sym, ap, _∙_, subst}
 use mathlib.Core.Bool.{true}
@@ -38,11 +38,11 @@ abbrev filled-of : tie.After-part-kept → tie.After-fill-rows
 filled-of p = p .before .before .before .before .before
 
 -- the kept points, from the sums
-abbrev kept-of : tie.After-kept-sums → tie.After-part-kept
+abbrev kept-of : tie.After-combine-kept → tie.After-part-kept
 kept-of x = x .before .before .before .before .before .before
 
 -- the sums, from where the ranks differ, and from where they do not
-abbrev sums-of : tie.After-slice-known5 → tie.After-kept-sums
+abbrev sums-of : tie.After-slice-known5 → tie.After-combine-kept
 sums-of c = c .before .before
 
 -- what the checks show
@@ -91,8 +91,8 @@ part-kept-requires c κs =
     let s = start q in
     (filled-length f, long-part q, s .pre .1, small s, shown s .low, λ p m. inside-set s p (among q p m), rows f)
 
-kept-sums-requires : tie.Need-kept-sums-requires
-kept-sums-requires c κs =
+combine-kept-requires : tie.Need-combine-kept-requires
+combine-kept-requires c κs =
     let p = c .before .before .before .before .before in
     let f = filled-of p in
     let q = mask-of f in
@@ -112,16 +112,16 @@ kept-sums-requires c κs =
     )
 
 -- and to the sums
-sums-length : (x : tie.After-kept-sums) → length (x .kept-sums .last .0) ≡ length (start (mask-of (filled-of (kept-of x))) .args .workspace .now)
-sums-length x = let p = kept-of x in let f = filled-of p in x .kept-sums .kept .0 ∙ p .part-kept .kept .0 ∙ f .fill-rows .kept .0
+sums-length : (x : tie.After-combine-kept) → length (x .combine-kept .last .0) ≡ length (start (mask-of (filled-of (kept-of x))) .args .workspace .now)
+sums-length x = let p = kept-of x in let f = filled-of p in x .combine-kept .kept .0 ∙ p .part-kept .kept .0 ∙ f .fill-rows .kept .0
 
 -- the sums tell whether the ranks of the set and of the side's part are equal
-compared : (x : tie.After-kept-sums) → let a = start (mask-of (filled-of (kept-of x))) .args in
-    eqb (rankOf (a .order .now) (a .n) (a .d) (points (a .set .now))) (rankOf (a .order .now) (a .n) (a .d) (part (a .side) (a .set .now) (a .table .now))) ≡ x .kept-sums .result
+compared : (x : tie.After-combine-kept) → let a = start (mask-of (filled-of (kept-of x))) .args in
+    eqb (rankOf (a .order .now) (a .n) (a .d) (points (a .set .now))) (rankOf (a .order .now) (a .n) (a .d) (part (a .side) (a .set .now) (a .table .now))) ≡ x .combine-kept .result
 compared x =
     let q = mask-of (filled-of (kept-of x)) in
     let a = start q .args in
-    ap (λ ps. eqb (rankOf (a .order .now) (a .n) (a .d) (points (a .set .now))) (rankOf (a .order .now) (a .n) (a .d) ps)) (sym (q .part-mask .ensures)) ∙ sym (x .kept-sums .ensures .0)
+    ap (λ ps. eqb (rankOf (a .order .now) (a .n) (a .d) (points (a .set .now))) (rankOf (a .order .now) (a .n) (a .d) ps)) (sym (q .part-mask .ensures)) ∙ sym (x .combine-kept .ensures .0)
 
 returns : tie.Need-returns
 returns c =
@@ -132,7 +132,7 @@ returns c =
     let s = start q in
     let a = s .args in
     ranks-differ (a .order .now) (a .set .now) (a .table .now) (a .n) (a .side) (a .d) (a .workspace .now) (a .certificate .now) (s .pre .0)
-    (z .clear .ensures ∙ ap zeros (sums-length x)) (compared x ∙ not-true (x .kept-sums .result) (t .if1 .taken)) refl
+    (z .clear .ensures ∙ ap zeros (sums-length x)) (compared x ∙ not-true (x .combine-kept .result) (t .if1 .taken)) refl
 
 write-certificate-requires : tie.Need-write-certificate-requires
 write-certificate-requires c κs =
@@ -150,9 +150,9 @@ returns-2 c =
     let q = mask-of (filled-of (kept-of x)) in
     let s = start q in
     let a = s .args in
-    let equal : x .kept-sums .result ≡ true = not-false _ (e .if1 .left) in
+    let equal : x .combine-kept .result ≡ true = not-false _ (e .if1 .left) in
     accepts (a .order .now) (a .set .now) (a .table .now) (a .n) (a .side) (a .d) (a .workspace .now) (a .certificate .now) (s .pre .0) (z .clear2 .ensures ∙ ap zeros (sums-length x))
-    (compared x ∙ equal) (w .write-certificate .ensures ∙ x .kept-sums .ensures .1 equal (a .table .now) (a .side) (q .part-mask .ensures))
+    (compared x ∙ equal) (w .write-certificate .ensures ∙ x .combine-kept .ensures .1 equal (a .table .now) (a .side) (q .part-mask .ensures))
 
 pub certify-points-spec : {M : Type 1} → statement M
 certify-points-spec =
@@ -164,7 +164,7 @@ certify-points-spec =
     part-kept-requires
     (λ c. search needs)
     (λ c. search needs)
-    kept-sums-requires
+    combine-kept-requires
     (λ c κs. search needs)
     (λ c. search needs)
     returns

@@ -1,4 +1,4 @@
--- Each call leaves the rows of points in their places, so the workspace is ready for the next (ready-after); ranks and additions are joined by degree, and the kept points are those of the last call (kept-cut).
+-- Each call leaves the rows of points in their places, so the workspace is ready for the next (ready-after); ranks and additions are joined by degree, and the kept points are those of the last call (points-at-degree).
 use borrow.Author.Needs.{needs}
 use mathlib.Core.Path.{_≡_, sym, _∙_}
 use Prim.Native.Nat.{ℕ, _+_}
@@ -10,7 +10,7 @@ use Rattle.order.specs.Order.{columns}
 use Rattle.gf2.specs.Prefix.{AtMost}
 use Rattle.matrix.specs.Matrix.{eliminated, rankOf}
 use Rattle.degree_ranks.specs.Ready.{Ready}
-use Rattle.degree_ranks.proofs.Cut.{counts-few, kept-cut, ranks-cut, additions-cut, ranks-joined}
+use Rattle.degree_ranks.proofs.Cut.{counts-few, points-at-degree, ranks-cut, additions-cut, ranks-joined}
 use Rattle.degree_ranks.proofs.Degrees.{summed-three}
 use Rattle.degree_ranks.proofs.Ready.{ready-after}
 use Rattle.degree_ranks.proofs.all_ranks.Statement.{statement}
@@ -131,7 +131,7 @@ returns c =
             ∙ sym (summed-three (λ d. eliminated o n d (points (a .set .now)) .additions) (λ d. eliminated o n d (points (a .one .now)) .additions) (λ d. eliminated o n d (points (a .zero .now)) .additions) (below (n + 1))),
         (
           h .1 .1 .0 .1 ∙ h₂ .1 .1 .0 .1 ∙ h₁ .1 .1 .0 .1,
-          (h .1 .1 .1 .0, λ d l. h .1 .1 .1 .1 (length (columns o n d)) ∙ kept-cut (ready-set q) (r .1) d l),
+          (h .1 .1 .1 .0, λ d l. h .1 .1 .1 .1 (length (columns o n d)) ∙ points-at-degree (ready-set q) (r .1) d l),
         ),
       ),
     )

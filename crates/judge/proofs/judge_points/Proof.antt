@@ -1,4 +1,4 @@
--- The checks show a filter, so the filled workspace is ready (filled-ready) and stays so; the points marked are the kept ones of the reported degree (kept-marked); judgement-found says that what is found is the judgement.
+-- The checks show a filter, so the filled workspace is ready (filled-ready) and stays so; the points marked are the kept ones of the reported degree (mask-reported); judgement-found says that what is found is the judgement.
 use borrow.Author.Needs.{needs}
 use mathlib.Core.Path.{_≡_, sym, ap, ap₂, _∙_}
 use mathlib.Core.List.{List}
@@ -20,7 +20,7 @@ use Rattle.immunity.proofs.PartPoints.{part-among}
 use Rattle.degree_ranks.specs.Ready.{Ready, Marks}
 use Rattle.degree_ranks.proofs.Ready.{ready-after}
 use Rattle.judge.proofs.Passed.{Passes, judge-passed}
-use Rattle.judge.proofs.Judging.{side-none, kept-marked, judgement-found, accepts}
+use Rattle.judge.proofs.Judging.{side-none, mask-reported, judgement-found, accepts}
 use Rattle.judge.proofs.judge_points.Statement.{statement}
 use Rattle.judge.proofs.judge_points.Tie as tie
 
@@ -182,7 +182,7 @@ returns c =
     accepts (a .order .now) (a .set .now) (a .table .now) (a .n) (a .workspace .now) (a .one .now) (a .zero .now) (a .kept .now) (s .pre .0) (e .clear .ensures ∙ ap zeros (kept w))
     (judgement-found (s .pre .1) (shown s .filter) (shown s .some) (two-parts (masks-by r)) (r .all-ranks .ensures .0) (k .found-degrees .ensures .1 .1 .0) (k .found-degrees .ensures .1 .0)
     (c .report-found .ensures) (k .found-degrees .ensures .1 .1 .1) (k .found-degrees .ensures .0) (r .all-ranks .ensures .1 .0) (ap₂ pair (w .write-witnesses .ensures .0) (w .write-witnesses .ensures .1))
-    (kept-marked (a .order .now) (a .n) (take rows (r .all-ranks .last .1 .1 .1 .1 .1 .1 .0)) (take rows (r .all-ranks .last .1 .1 .1 .1 .1 .1 .1 .0)) (points (a .set .now))
+    (mask-reported (a .order .now) (a .n) (take rows (r .all-ranks .last .1 .1 .1 .1 .1 .1 .0)) (take rows (r .all-ranks .last .1 .1 .1 .1 .1 .1 .1 .0)) (points (a .set .now))
     (r .all-ranks .ensures .1 .1 .1 .1) (k .found-degrees .ensures .1 .1 .0) (columns-of m .column-count .ensures) (m .mark-below .ensures)))
 
 pub judge-points-spec : {M : Type 1} → statement M

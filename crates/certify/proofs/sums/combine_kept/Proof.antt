@@ -11,8 +11,8 @@ use Rattle.packed.specs.Packed.{unpacked}
 use Rattle.matrix.specs.Matrix.{rankOf}
 use Rattle.matrix.specs.Combination.{Combines}
 use Rattle.certify.proofs.KeptSums.{Combined, combined}
-use Rattle.certify.proofs.sums.kept_sums.Statement.{statement}
-use Rattle.certify.proofs.sums.kept_sums.Tie as tie
+use Rattle.certify.proofs.sums.combine_kept.Statement.{statement}
+use Rattle.certify.proofs.sums.combine_kept.Tie as tie
 
 -- the combinations, from where the sums are made
 abbrev combinations : tie.After-places3 → tie.After-eliminate-combining
@@ -72,8 +72,8 @@ returns c =
     let t′ = unpacked (y .combine-outside .last .0) in
     (compared m r (y .combine-outside .result) (λ e. gives x .equal t′ (h .0 e)) (λ e. gives x .differ (h .1 e)), λ e. gives x .written-is t′ (h .0 e))
 
-pub kept-sums-spec : {M : Type 1} → statement M
-kept-sums-spec =
+pub combine-kept-spec : {M : Type 1} → statement M
+combine-kept-spec =
     tie.close
     (tie.spec
     (λ c. search needs)
