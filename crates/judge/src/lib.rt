@@ -135,22 +135,22 @@ fn judge_points(
     table: &[u8],
     n: usize,
     order: &[u16],
-    workspace: &mut [u64],
+    ws: &mut [u64],
     one: &mut [u8],
     zero: &mut [u8],
     kept: &mut [u8],
 ) -> JudgeAnswer
-    requires { ⌜ (verdict (judgeChecks (now set) (now table) n (length (now workspace)) (length (now one)) (length (now zero)) (length (now kept))) ≡ Passed) × Graded (now order) ⌝ }
-    ensures { λ r. ⌜ JudgeContract (judgeOutcome (now (order .entry)) (now (set .entry)) (now (table .entry)) n (length (now (workspace .entry))) (length (now (one .entry))) (length (now (zero .entry))) (length (now (kept .entry))))
-        (now (workspace .entry)) (now (workspace .exit)) (pair (now (one .entry)) (now (zero .entry))) (pair (now (one .exit)) (now (zero .exit))) (now (kept .entry)) (now (kept .exit)) r ⌝ }
+    requires { ⌜ (verdict (judgeChecks (now set) (now table) n (length (now ws)) (length (now one)) (length (now zero)) (length (now kept))) ≡ Passed) × Graded (now order) ⌝ }
+    ensures { λ r. ⌜ JudgeContract (judgeOutcome (now (order .entry)) (now (set .entry)) (now (table .entry)) n (length (now (ws .entry))) (length (now (one .entry))) (length (now (zero .entry))) (length (now (kept .entry))))
+        (now (ws .entry)) (now (ws .exit)) (pair (now (one .entry)) (now (zero .entry))) (pair (now (one .exit)) (now (zero .exit))) (now (kept .entry)) (now (kept .exit)) r ⌝ }
 {
     let part_one = part_mask(set, table, 1);
     let part_zero = part_mask(set, table, 0);
     let mut pivots = [0u16; COLUMNS];
     let mut points = [0u16; COLUMNS];
-    fill_rows(workspace, order, n);
+    fill_rows(ws, order, n);
     let found = all_ranks(
-        workspace,
+        ws,
         order,
         set,
         &part_one,
@@ -165,19 +165,8 @@ fn judge_points(
     let here = ranks[k];
     let columns = column_count(order, n, k as u16);
     mark_below(&pivots, &points, found.kept, columns, kept);
-    write_witnesses(
-        workspace,
-        order,
-        set,
-        &part_one,
-        &part_zero,
-        n,
-        k,
-        here,
-        one,
-        zero,
-    );
-    clear(workspace);
+    write_witnesses(ws, order, set, &part_one, &part_zero, n, k, here, one, zero);
+    clear(ws);
     let finding = Finding::Judged(report_found(degrees, here, found.additions));
     JudgeAnswer { finding, ranks }
 }

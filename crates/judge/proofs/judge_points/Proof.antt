@@ -65,8 +65,8 @@ abbrev start-by : tie.After-all-ranks → tie.Start
 start-by r = start (masks-by r .before)
 
 -- what the checks show
-shown : (s : tie.Start) → let a = s .args in Passes (a .n) (a .set .now) (a .table .now) (length (a .workspace .now)) (length (a .one .now)) (length (a .zero .now)) (length (a .kept .now))
-shown s = let a = s .args in judge-passed (a .n) (a .set .now) (a .table .now) (length (a .workspace .now)) (length (a .one .now)) (length (a .zero .now)) (length (a .kept .now)) (s .pre .0)
+shown : (s : tie.Start) → let a = s .args in Passes (a .n) (a .set .now) (a .table .now) (length (a .ws .now)) (length (a .one .now)) (length (a .zero .now)) (length (a .kept .now))
+shown s = let a = s .args in judge-passed (a .n) (a .set .now) (a .table .now) (length (a .ws .now)) (length (a .one .now)) (length (a .zero .now)) (length (a .kept .now)) (s .pre .0)
 
 -- at most nine taps
 small : (s : tie.Start) → s .args .n ≤ 9
@@ -110,7 +110,7 @@ filled-ready f =
       long = f .fill-rows .kept .0 ∙ shown s .workspace-long;
       ordered = s .pre .1;
       small = small s;
-      rows = rw (f .fill-rows .ensures) (filled-rows (exponents (a .order .now) (a .n)) (a .n) (small s) (unpacked (a .workspace .now)) (length-rows 1024 (a .workspace .now)));
+      rows = rw (f .fill-rows .ensures) (filled-rows (exponents (a .order .now) (a .n)) (a .n) (small s) (unpacked (a .ws .now)) (length-rows 1024 (a .ws .now)));
     }
 
 all-ranks-requires : tie.Need-all-ranks-requires
@@ -163,7 +163,7 @@ write-witnesses-requires c κs =
     )
 
 -- the workspace keeps its length up to where it is cleared
-kept : (w : tie.After-write-witnesses) → length (w .write-witnesses .last .0) ≡ length (start-by (ranks-of (degrees-of (marks-of w))) .args .workspace .now)
+kept : (w : tie.After-write-witnesses) → length (w .write-witnesses .last .0) ≡ length (start-by (ranks-of (degrees-of (marks-of w))) .args .ws .now)
 kept w = let r = ranks-of (degrees-of (marks-of w)) in w .write-witnesses .kept .0 ∙ r .all-ranks .kept .0 ∙ filled-of r .fill-rows .kept .0
 
 same-length : tie.Need-same-length
@@ -179,7 +179,7 @@ returns c =
     let s = start-by r in
     let a = s .args in
     let rows = r .all-ranks .result .kept in
-    accepts (a .order .now) (a .set .now) (a .table .now) (a .n) (a .workspace .now) (a .one .now) (a .zero .now) (a .kept .now) (s .pre .0) (e .clear .ensures ∙ ap zeros (kept w))
+    accepts (a .order .now) (a .set .now) (a .table .now) (a .n) (a .ws .now) (a .one .now) (a .zero .now) (a .kept .now) (s .pre .0) (e .clear .ensures ∙ ap zeros (kept w))
     (judgement-found (s .pre .1) (shown s .filter) (shown s .some) (two-parts (masks-by r)) (r .all-ranks .ensures .0) (k .found-degrees .ensures .1 .1 .0) (k .found-degrees .ensures .1 .0)
     (c .report-found .ensures) (k .found-degrees .ensures .1 .1 .1) (k .found-degrees .ensures .0) (r .all-ranks .ensures .1 .0) (ap₂ pair (w .write-witnesses .ensures .0) (w .write-witnesses .ensures .1))
     (mask-reported (a .order .now) (a .n) (take rows (r .all-ranks .last .1 .1 .1 .1 .1 .1 .0)) (take rows (r .all-ranks .last .1 .1 .1 .1 .1 .1 .1 .0)) (points (a .set .now))
