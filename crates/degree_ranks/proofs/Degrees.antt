@@ -28,7 +28,7 @@ use Rattle.cube.proofs.Masks.{length-from, value-at}
 use Rattle.gf2.specs.Vector.{Each}
 use Rattle.gf2.proofs.Each.{member-each, map-each}
 use Rattle.immunity.specs.Judgement.{summed}
-use Rattle.immunity.proofs.FirstDegree.{degree-below}
+use Rattle.immunity.proofs.FirstUpTo.{degree-below}
 use Rattle.degree_ranks.specs.Cut.{numberIf, upTo}
 
 -- the degrees from d on up to n

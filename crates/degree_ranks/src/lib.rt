@@ -16,13 +16,13 @@ ghost use Rattle.matrix.specs.Kept.{keptPoints};
 ghost use Rattle.filter.specs.Sides.{pair, bothSides};
 ghost use Rattle.immunity.specs.First.{first};
 ghost use Rattle.immunity.specs.Mark.{twiceExceeds, markIn};
-ghost use Rattle.immunity.specs.SideDegree.{degreeOf, degreesOf};
+ghost use Rattle.immunity.specs.FirstDegree.{degreeOf, degreesOf};
 ghost use Rattle.immunity.specs.Judgement.{summed};
 ghost use Rattle.immunity.specs.Ranks.{noRanks, ranksIn, ranksUpTo, additionsOf, partDiffers, differ};
 ghost use Rattle.degree_ranks.specs.Cut.{upTo, columnCount, columnCounts, rankCut, additionsCut};
 ghost use Rattle.degree_ranks.specs.Ready.{Ready, Marks};
+use immunity::FirstDegree;
 use immunity::Ranks;
-use immunity::SideDegree;
 use matrix::tally::eliminate_tallied;
 use order::columns::column_count;
 use packed::COLUMNS;
@@ -51,8 +51,8 @@ pub struct FoundRanks {
 pub struct FoundDegrees {
     pub reported: usize,
     pub mark: usize,
-    pub one: SideDegree,
-    pub zero: SideDegree,
+    pub one: FirstDegree,
+    pub zero: FirstDegree,
 }
 
 // The number of columns of `n` taps at each degree up to `n`, and 0 past it.
@@ -173,7 +173,7 @@ pub fn part_differs(r: Ranks, side: u8) -> bool
 }
 
 // A side's own degree: the first up to `n` at which the rank of its part is not that of the set, or none.
-fn side_degree(ranks: [Ranks; 10], n: usize, side: u8) -> SideDegree
+fn side_degree(ranks: [Ranks; 10], n: usize, side: u8) -> FirstDegree
     requires { ⌜ n ≤ 9 ⌝ }
     ensures { λ r. ⌜ degreeOf r ≡ first (λ d. partDiffers (getD ranks d noRanks) side) (below (n + 1)) ⌝ }
 {
@@ -181,25 +181,25 @@ fn side_degree(ranks: [Ranks; 10], n: usize, side: u8) -> SideDegree
     while d <= n {
         let here = ranks[d];
         if part_differs(here, side) {
-            return SideDegree::At(d);
+            return FirstDegree::At(d);
         }
         d += 1;
     }
-    SideDegree::None
+    FirstDegree::None
 }
 
 // The degree, or `n` if there is none.
-fn degree_or(degree: SideDegree, n: usize) -> usize
+fn degree_or(degree: FirstDegree, n: usize) -> usize
     ensures { λ r. ⌜ r ≡ Option·getD (degreeOf degree) n ⌝ }
 {
     match degree {
-        SideDegree::At(d) => d,
-        SideDegree::None => n,
+        FirstDegree::At(d) => d,
+        FirstDegree::None => n,
     }
 }
 
 // The smaller of the two sides' degrees, where a side without one counts as `n`.
-fn smaller_degree(one: SideDegree, zero: SideDegree, n: usize) -> usize
+fn smaller_degree(one: FirstDegree, zero: FirstDegree, n: usize) -> usize
     ensures { λ r. ⌜ r ≡ min (Option·getD (degreeOf one) n) (Option·getD (degreeOf zero) n) ⌝ }
 {
     let of_one = degree_or(one, n);

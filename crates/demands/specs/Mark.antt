@@ -22,7 +22,7 @@ use Rattle.filter.specs.Part.{part}
 use Rattle.filter_file.specs.File.{Contents}
 use Rattle.filter_file.specs.Read.{reading}
 use Rattle.immunity.specs.Annihilator.{Annihilator}
-use Rattle.immunity.specs.SideDegree.{smaller}
+use Rattle.immunity.specs.FirstDegree.{smaller}
 use Rattle.immunity.specs.Judgement.{Judgement, setRank, GivenEqual}
 use Rattle.judge.specs.declared.JudgeAnswer.{JudgeAnswer}
 use Rattle.judge.specs.declared.Report.{Report}

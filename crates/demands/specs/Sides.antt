@@ -19,7 +19,7 @@ use Rattle.filter.specs.Part.{part}
 use Rattle.filter_file.specs.File.{Contents}
 use Rattle.filter_file.specs.Read.{reading}
 use Rattle.immunity.specs.Annihilator.{Annihilator, LowestDegree}
-use Rattle.immunity.specs.SideDegree.{degreesOf, smaller}
+use Rattle.immunity.specs.FirstDegree.{degreesOf, smaller}
 use Rattle.immunity.specs.Judgement.{Judgement, GivenEqual}
 use Rattle.judge.specs.declared.JudgeAnswer.{JudgeAnswer}
 use Rattle.judge.specs.declared.Report.{Report}

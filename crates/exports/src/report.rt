@@ -3,10 +3,10 @@
 ghost use mathlib.Core.Path.{_≡_};
 ghost use mathlib.Core.Option.{some};
 ghost use Prim.Native.Nat.{_≤_};
-ghost use Rattle.immunity.specs.SideDegree.{degreeOf, degreesOf};
+ghost use Rattle.immunity.specs.FirstDegree.{degreeOf, degreesOf};
 ghost use Rattle.exports.specs.Report.{degreeNumber, numbers as numbersOf};
+use immunity::FirstDegree;
 use immunity::Ranks;
-use immunity::SideDegree;
 use judge::Report;
 
 // The length of the report.
@@ -49,13 +49,13 @@ const NO_DEGREE: u32 = 10;
 const DEGREES: usize = 10;
 
 // The number for a side's own degree, which is at most 10 and so fits in 32 bits.
-fn degree_number(degree: SideDegree) -> u32
+fn degree_number(degree: FirstDegree) -> u32
     requires { ⌜ degreeNumber (degreeOf degree) ≤ 10 ⌝ }
     ensures { λ r. ⌜ r ≡ degreeNumber (degreeOf degree) ⌝ }
 {
     match degree {
-        SideDegree::At(d) => d as u32,
-        SideDegree::None => NO_DEGREE,
+        FirstDegree::At(d) => d as u32,
+        FirstDegree::None => NO_DEGREE,
     }
 }
 

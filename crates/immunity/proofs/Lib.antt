@@ -5,7 +5,7 @@ pub mod CertificateTest
 pub mod CertificateNumbers
 pub mod Equal
 pub mod First
-pub mod FirstDegree
+pub mod FirstUpTo
 pub mod Given
 pub mod Mark
 pub mod NewPoint

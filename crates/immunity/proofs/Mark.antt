@@ -28,7 +28,7 @@ use Rattle.matrix.specs.Matrix.{rankOf}
 use Rattle.matrix.proofs.FullRank.{rank-fewer, rank-full, rank-all}
 use Rattle.immunity.specs.Mark.{twiceExceeds, markOf}
 use Rattle.immunity.specs.Judgement.{EqualRanks}
-use Rattle.immunity.proofs.FirstDegree.{first-degree, first-none}
+use Rattle.immunity.proofs.FirstUpTo.{first-degree, first-none}
 use Rattle.immunity.proofs.Reported.{FirstDiffers}
 
 module _ (o : List ℕ) (n : ℕ) (s : List ℕ) where

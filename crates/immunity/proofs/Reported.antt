@@ -33,7 +33,7 @@ use Rattle.filter.proofs.Filters.{few-taps}
 use Rattle.immunity.specs.Judgement.{EqualRanks, differs, eitherDiffers, reported}
 use Rattle.immunity.specs.Annihilator.{Annihilator}
 use Rattle.immunity.proofs.First.{First, first-found}
-use Rattle.immunity.proofs.FirstDegree.{degree-below}
+use Rattle.immunity.proofs.FirstUpTo.{degree-below}
 use Rattle.immunity.proofs.Equal.{equal-none}
 use Rattle.immunity.proofs.PartPoints.{part-among}
 

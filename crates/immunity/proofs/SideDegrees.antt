@@ -35,9 +35,9 @@ use Rattle.matrix.proofs.Rising.{below-rising, points-rising}
 use Rattle.filter.specs.Part.{part}
 use Rattle.immunity.specs.Annihilator.{Annihilator, LowestDegree}
 use Rattle.immunity.specs.Witness.{IsWitness, witnessAt}
-use Rattle.immunity.specs.SideDegree.{smaller}
+use Rattle.immunity.specs.FirstDegree.{smaller}
 use Rattle.immunity.specs.Judgement.{EqualRanks, differs, reported, sideDegree, sideAt}
-use Rattle.immunity.proofs.FirstDegree.{first-degree, first-none, first-or}
+use Rattle.immunity.proofs.FirstUpTo.{first-degree, first-none, first-or}
 use Rattle.immunity.proofs.PartPoints.{part-among}
 use Rattle.immunity.proofs.Reported.{FirstDiffers, unequal-differs, equal-differs, equal-just, outside-differs}
 use Rattle.immunity.proofs.Witnesses.{is-annihilator, witness-is}

@@ -3,8 +3,8 @@ pub mod Annihilator
 pub mod Certificate
 pub mod CertificateTest
 pub mod First
+pub mod FirstDegree
 pub mod Judgement
 pub mod Mark
 pub mod Ranks
-pub mod SideDegree
 pub mod Witness

@@ -8,8 +8,9 @@ pub struct Ranks {
     pub zero: u16,
 }
 
-// A side's own degree: the first at which the rank of its part is not that of the set, or none.
-pub enum SideDegree {
+// The first degree at which something is so, or none: a side's own degree, at which the rank of its part is not that of
+// the set, or a mark.
+pub enum FirstDegree {
     At(usize),
     None,
 }

@@ -41,15 +41,15 @@ use Rattle.matrix.specs.Matrix.{rankOf}
 use Rattle.matrix.specs.Kept.{keptPoints, keptMask}
 use Rattle.matrix.proofs.FullRank.{rank-full}
 use Rattle.immunity.specs.declared.Ranks.{Ranks}
-use Rattle.immunity.specs.declared.SideDegree.{SideDegree}
+use Rattle.immunity.specs.declared.FirstDegree.{FirstDegree}
 use Rattle.immunity.specs.First.{first}
 use Rattle.immunity.specs.Mark.{twiceExceeds, markOf, markIn}
 use Rattle.immunity.specs.Witness.{newPoint, witnessAt}
 use Rattle.immunity.specs.Ranks.{noRanks, ranksIf, parts, ranksOf, ranksUpTo, additionsOf, partDiffers, differ}
-use Rattle.immunity.specs.SideDegree.{degreesOf}
+use Rattle.immunity.specs.FirstDegree.{degreesOf}
 use Rattle.immunity.specs.Judgement.{Judgement, differs, reported, sideDegree, ranksAt, sideAt, additionsAt, summed, witnessBytes, keptBytes, judged}
 use Rattle.immunity.proofs.First.{first-same}
-use Rattle.immunity.proofs.FirstDegree.{degree-below}
+use Rattle.immunity.proofs.FirstUpTo.{degree-below}
 use Rattle.immunity.proofs.Given.{ranks-given, set-given}
 use Rattle.immunity.proofs.Mark.{mark-exists}
 use Rattle.immunity.proofs.NewPoint.{new-point-none}
@@ -178,7 +178,7 @@ module _ {o : List ℕ} (g : Graded o) {n : ℕ} {s f : List ℕ} (filter : Filt
     is-mark e = let (j, is) = mark-exists g small s inside some-point in is ∙ ap some (sym (e ∙ ap (λ x. Option·getD x n) (mark-judged ∙ is)))
 
     -- what is found and reported is the judgement
-    pub judgement-found : {m additions : ℕ} {x y : SideDegree} {w : Sides (List ℕ)} {kept : List ℕ} {report : Report}
+    pub judgement-found : {m additions : ℕ} {x y : FirstDegree} {w : Sides (List ℕ)} {kept : List ℕ} {report : Report}
         → report ≡ record { mark = m; degree = k; side = byte (partDiffers (getD ranks k noRanks) 1); one = x; zero = y; additions = additions }
         → m ≡ Option·getD (markIn ranks n) n
         → degreesOf x y ≡ bothSides (λ i. first (λ d. partDiffers (getD ranks d noRanks) i) (below (n + 1)))

@@ -30,7 +30,7 @@ use Rattle.filter.specs.Filter.{Filter}
 use Rattle.filter.proofs.Filters.{a-filter, some-point, passes, few-taps}
 use Rattle.immunity.specs.declared.Ranks.{Ranks}
 use Rattle.immunity.specs.Judgement.{Judgement, eitherDiffers, reported, sideDegree, ranksAt, judged}
-use Rattle.immunity.proofs.FirstDegree.{first-degree}
+use Rattle.immunity.proofs.FirstUpTo.{first-degree}
 use Rattle.immunity.proofs.Mark.{mark-first}
 use Rattle.immunity.proofs.SideDegrees.{side-first}
 use Rattle.judge.specs.declared.Finding.{Finding}

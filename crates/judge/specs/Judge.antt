@@ -18,7 +18,7 @@ use Rattle.filter.specs.Sides.{Sides}
 use Rattle.filter.specs.Checks.{lengthIs, tapsOf, filterLengths, filterMasks}
 use Rattle.immunity.specs.declared.Ranks.{Ranks}
 use Rattle.immunity.specs.Ranks.{noRanks}
-use Rattle.immunity.specs.SideDegree.{degreesOf}
+use Rattle.immunity.specs.FirstDegree.{degreesOf}
 use Rattle.immunity.specs.Judgement.{Judgement, judged}
 use Rattle.judge.specs.declared.JudgeAnswer.{JudgeAnswer}
 use Rattle.judge.specs.declared.Report.{Report}

@@ -27,8 +27,8 @@ use filter::checks::check_filter_masks;
 use filter::checks::check_length;
 use filter::checks::check_taps;
 use filter::part::part_mask;
+use immunity::FirstDegree;
 use immunity::Ranks;
-use immunity::SideDegree;
 use matrix::kept::mark_below;
 use order::columns::column_count;
 use order::graded_order;
@@ -45,8 +45,8 @@ pub struct Report {
     pub mark: usize,
     pub degree: usize,
     pub side: u8,
-    pub one: SideDegree,
-    pub zero: SideDegree,
+    pub one: FirstDegree,
+    pub zero: FirstDegree,
     pub additions: u32,
 }
 

@@ -8,7 +8,7 @@ ghost use Rattle.cube.specs.Mask.{member, points};
 ghost use Rattle.order.specs.BuiltIn.{graded};
 ghost use Rattle.filter.specs.Part.{part};
 ghost use Rattle.filter.specs.Outside.{outside};
-ghost use Rattle.immunity.specs.SideDegree.{degreeOf, degreesOf};
+ghost use Rattle.immunity.specs.FirstDegree.{degreeOf, degreesOf};
 ghost use Rattle.immunity.specs.Certificate.{bitOf};
 ghost use Rattle.buffer.specs.Appends.{Appends};
 ghost use Rattle.text.specs.Room.{fieldRoom};
@@ -18,8 +18,8 @@ ghost use Rattle.sheet_lines.specs.Lines.{refusedLine, firstLine, rankLi
 use buffer::append;
 use cube::POINTS;
 use cube::Point;
+use immunity::FirstDegree;
 use immunity::Ranks;
-use immunity::SideDegree;
 use order::exponent_at;
 use order::graded_order;
 use packed::ROW_WORDS;
@@ -113,18 +113,18 @@ pub fn degree_line(text: &mut [u8], at: usize, k: usize, side: u8, witness: &[u8
 }
 
 // A degree, or `none`, after a space.
-fn degree_field(text: &mut [u8], at: usize, degree: SideDegree) -> usize
+fn degree_field(text: &mut [u8], at: usize, degree: FirstDegree) -> usize
     requires { ⌜ at + fieldRoom ≤ length (now text) ⌝ }
     ensures { λ r. ⌜ Appends (degreeField (degreeOf degree)) (now (text .entry)) (now (text .exit)) at r × (r ≤ at + fieldRoom) ⌝ }
 {
     match degree {
-        SideDegree::At(d) => append_field(text, at, d as u64),
-        SideDegree::None => append(text, at, b" none"),
+        FirstDegree::At(d) => append_field(text, at, d as u64),
+        FirstDegree::None => append(text, at, b" none"),
     }
 }
 
 // Each side's own degree: side 1's, then side 0's.
-pub fn sides_line(text: &mut [u8], at: usize, one: SideDegree, zero: SideDegree) -> usize
+pub fn sides_line(text: &mut [u8], at: usize, one: FirstDegree, zero: FirstDegree) -> usize
     requires { ⌜ at + sidesLineRoom ≤ length (now text) ⌝ }
     ensures { λ r. ⌜ Appends (sidesLine (degreesOf one zero)) (now (text .entry)) (now (text .exit)) at r × (r ≤ at + sidesLineRoom) ⌝ }
 {

@@ -9,8 +9,8 @@ use Rattle.cube.specs.NumberLists.{below}
 use Rattle.filter.specs.Sides.{pair}
 use Rattle.matrix.proofs.Rising.{below-rising}
 use Rattle.immunity.specs.First.{first}
-use Rattle.immunity.specs.SideDegree.{smaller}
-use Rattle.immunity.proofs.FirstDegree.{first-degree, first-or, smaller-counted}
+use Rattle.immunity.specs.FirstDegree.{smaller}
+use Rattle.immunity.proofs.FirstUpTo.{first-degree, first-or, smaller-counted}
 use Rattle.degree_ranks.proofs.found_degrees.Statement.{statement}
 use Rattle.degree_ranks.proofs.found_degrees.Tie as tie
 

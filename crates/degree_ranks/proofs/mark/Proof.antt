@@ -9,7 +9,7 @@ use native.Mathlib.Omega.{arith}
 use lib.ListN.{getD}
 use Rattle.immunity.specs.Mark.{twiceExceeds}
 use Rattle.immunity.specs.Ranks.{noRanks}
-use Rattle.immunity.proofs.FirstDegree.{first-degree, first-last}
+use Rattle.immunity.proofs.FirstUpTo.{first-degree, first-last}
 use Rattle.degree_ranks.proofs.mark.Statement.{statement}
 use Rattle.degree_ranks.proofs.mark.Tie as tie
 

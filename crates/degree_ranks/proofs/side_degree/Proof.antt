@@ -7,7 +7,7 @@ use Prim.Native.Nat.{ℕ, _+_, _-_, _≤_, _<_}
 use native.Mathlib.Omega.{arith}
 use lib.ListN.{getD}
 use Rattle.immunity.specs.Ranks.{noRanks, partDiffers}
-use Rattle.immunity.proofs.FirstDegree.{first-degree, first-none}
+use Rattle.immunity.proofs.FirstUpTo.{first-degree, first-none}
 use Rattle.degree_ranks.proofs.side_degree.Statement.{statement}
 use Rattle.degree_ranks.proofs.side_degree.Tie as tie
 

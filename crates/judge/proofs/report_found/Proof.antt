@@ -1,13 +1,13 @@
 use borrow.Author.Needs.{needs}
 use mathlib.Core.Path.{_≡_}
 use Prim.Native.Nat.{ℕ}
-use Rattle.immunity.specs.declared.SideDegree.{SideDegree}
+use Rattle.immunity.specs.declared.FirstDegree.{FirstDegree}
 use Rattle.judge.specs.declared.Report.{Report}
 use Rattle.judge.proofs.report_found.Statement.{statement}
 use Rattle.judge.proofs.report_found.Tie as tie
 
 -- a report with the side under another name
-side-same : {m k a b additions : ℕ} {x y : SideDegree} → a ≡ b
+side-same : {m k a b additions : ℕ} {x y : FirstDegree} → a ≡ b
     → _≡_ {A = Report} (record { mark = m; degree = k; side = a; one = x; zero = y; additions = additions }) (record { mark = m; degree = k; side = b; one = x; zero = y; additions = additions })
 side-same e = cc
 

@@ -2,7 +2,7 @@ use borrow.Author.Needs.{needs}
 use mathlib.Core.Path.{subst}
 use Prim.Native.Nat.{_≤_}
 use native.Mathlib.Omega.{arith}
-use Rattle.immunity.specs.SideDegree.{degreeOf}
+use Rattle.immunity.specs.FirstDegree.{degreeOf}
 use Rattle.exports.specs.Report.{degreeNumber}
 use Rattle.exports.proofs.report.degree_number.Statement.{statement}
 use Rattle.exports.proofs.report.degree_number.Tie as tie

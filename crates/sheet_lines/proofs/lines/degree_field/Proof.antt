@@ -3,7 +3,7 @@ use mathlib.Core.Path.{sym, ap}
 use native.Mathlib.Omega.{arith}
 use Rattle.buffer.proofs.Appending.{appends-same}
 use Rattle.text.specs.Text.{ascii}
-use Rattle.immunity.specs.SideDegree.{degreeOf}
+use Rattle.immunity.specs.FirstDegree.{degreeOf}
 use Rattle.sheet_lines.specs.Lines.{degreeField}
 use Rattle.sheet_lines.proofs.lines.degree_field.Statement.{statement}
 use Rattle.sheet_lines.proofs.lines.degree_field.Tie as tie

@@ -1,20 +1,20 @@
--- A side's own degree as the code says it, and the smaller of two; Judgement.antt has `sideDegree`.
+-- A first degree as the code says it, a side's own or a mark, and the smaller of two; Judgement.antt has `sideDegree`.
 --   degreeOf x      the degree that the code's value x says, or none
 --   degreesOf x y   the same of both sides, x for side 1 and y for side 0
 --   smaller x y     the smaller of two degrees, of those that exist; none if neither does
 use mathlib.Core.Option.{Option, none, some}
 use Prim.Native.Nat.{ℕ, min}
 use Rattle.filter.specs.Sides.{Sides, pair}
-use Rattle.immunity.specs.declared.SideDegree.{SideDegree}
-use Rattle.immunity.specs.declared.SideDegree.the-variants.{At, None}
+use Rattle.immunity.specs.declared.FirstDegree.{FirstDegree}
+use Rattle.immunity.specs.declared.FirstDegree.the-variants.{At, None}
 
 -- the degree, or none
-abbrev pub degreeOf : SideDegree → Option ℕ
+abbrev pub degreeOf : FirstDegree → Option ℕ
 degreeOf (At d) = some d
 degreeOf None = none
 
 -- those of side 1 and of side 0
-abbrev pub degreesOf : SideDegree → SideDegree → Sides (Option ℕ)
+abbrev pub degreesOf : FirstDegree → FirstDegree → Sides (Option ℕ)
 degreesOf x y = pair (degreeOf x) (degreeOf y)
 
 -- the smaller of those that exist, none if neither does

@@ -20,7 +20,7 @@ use Rattle.gf2.specs.Points.{Rising}
 use Rattle.gf2.proofs.Each.{each-member}
 use Rattle.matrix.proofs.Rising.{below-rising}
 use Rattle.immunity.specs.First.{firstIf, first}
-use Rattle.immunity.specs.SideDegree.{smaller}
+use Rattle.immunity.specs.FirstDegree.{smaller}
 use Rattle.immunity.proofs.First.{First, Says, first-says, first-found, first-is, first-passes}
 
 -- the members of below (n + 1) are the degrees up to n
