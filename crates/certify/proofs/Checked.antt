@@ -1,7 +1,7 @@
 -- What Check answers.
 --   inputs-as-certify    inputs that pass the checks of Check pass those of Certify with a workspace of the right length
 --   check-shown          so they show what those show
---   check-passes         those of a filter whose set has a point, with a certificate of the right length, pass
+--   check-passes         those of a filter, with a certificate of the right length, pass
 --   check-says           where they pass, the answer is whether the numbers are a certificate
 --   check-accepted       where there is an answer, they pass
 --   check-exact          it is yes just for a certificate
@@ -10,7 +10,7 @@
 --   rows-checked         the test of all rows by sums over supersets is that of a certificate
 use mathlib.Core.Path.{_≡_, refl, sym, ap, ap₂, _∙_}
 use mathlib.Core.Logic.{_↔_}
-use mathlib.Core.Bool.{Bool, true, false, _&&_}
+use mathlib.Core.Bool.{Bool, true, _&&_}
 use mathlib.Core.List.{List}
 use Prim.Native.Nat.{ℕ, _≤_}
 use lib.ListN.{length}
@@ -20,7 +20,7 @@ use Rattle.refusal.specs.Verdict.{verdict}
 use Rattle.refusal.specs.declared.Refusal.{Refusal}
 use Rattle.refusal.specs.declared.verdict.Verdict.the-variants.{Passed, Refused}
 use Rattle.refusal.proofs.Verdicts.{passed-all, all-passed, verdict-refuses, verdict-passes, accepted-passes}
-use Rattle.cube.specs.NumberLists.{isEmpty, allBelow}
+use Rattle.cube.specs.NumberLists.{allBelow}
 use Rattle.cube.specs.Mask.{points}
 use Rattle.cube.proofs.AllBelow.{all-same}
 use Rattle.order.specs.Order.{Graded}
@@ -51,10 +51,10 @@ module _ (s f : List ℕ) (n side d l : ℕ) where
   pub check-shown : verdict (checkInputs s f n side d l) ≡ Passed → Passes n s f side d 8192 l
   check-shown e = certify-passed n s f side d 8192 l (inputs-as-certify e)
 
-  -- those of a filter whose set has a point, with a certificate of the right length, pass
-  pub check-passes : Filter n s f → isEmpty (points s) ≡ false → side ≤ 1 → d ≤ n → l ≡ 4096 → verdict (checkInputs s f n side d l) ≡ Passed
-  check-passes h some up low e =
-      let (set, (table, (_, (_, rest)))) = passed-all (certifyInputs s f n side d 8192 4096) (inputs-pass n s f side d h some up low) in
+  -- those of a filter, with a certificate of the right length, pass
+  pub check-passes : Filter n s f → side ≤ 1 → d ≤ n → l ≡ 4096 → verdict (checkInputs s f n side d l) ≡ Passed
+  check-passes h up low e =
+      let (set, (table, (_, (_, rest)))) = passed-all (certifyInputs s f n side d 8192 4096) (inputs-pass n s f side d h up low) in
       all-passed (checkInputs s f n side d l) (set, (table, (eq-eqb l 4096 e, rest)))
 
 module _ (o s f : List ℕ) (n side d : ℕ) (c : List ℕ) where

@@ -26,7 +26,7 @@ use Rattle.immunity.specs.Certificate.{certificate}
 use Rattle.certify.specs.declared.CertifyAnswer.{CertifyAnswer}
 use Rattle.certify.specs.declared.CertifyAnswer.the-variants.{Refused, Accepted}
 
--- lengths, taps, the set's bytes, the table's bytes, a point in the set, the degree, the side
+-- lengths, taps, the set's bytes, the table's bytes, the degree, the side
 abbrev pub certifyInputs : List ℕ → List ℕ → ℕ → ℕ → ℕ → ℕ → ℕ → List Check
 certifyInputs s f n side d m l =
     filterLengths s f ++ lengthIs m 8192 ++ lengthIs l 4096 ++ tapsOf n ++ filterMasks n s f ++ degreeUpTo d n ++ sideUpTo1 side

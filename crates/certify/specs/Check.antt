@@ -20,7 +20,7 @@ use Rattle.immunity.specs.CertificateTest.{certifies}
 use Rattle.certify.specs.declared.check.CheckAnswer.{CheckAnswer}
 use Rattle.certify.specs.declared.check.CheckAnswer.the-variants.{Refused, Yes, No}
 
--- those of Certify without the workspace and without 12: lengths, taps, the set's bytes, the table's bytes, a point in the set, the degree, the side
+-- those of Certify without the workspace and without 12: lengths, taps, the set's bytes, the table's bytes, the degree, the side
 abbrev pub checkInputs : List ℕ → List ℕ → ℕ → ℕ → ℕ → ℕ → List Check
 checkInputs s f n side d l =
     filterLengths s f ++ lengthIs l 4096 ++ tapsOf n ++ filterMasks n s f ++ degreeUpTo d n ++ sideUpTo1 side

@@ -58,7 +58,7 @@ fn answer_of(yes: bool) -> CheckAnswer
     CheckAnswer::No
 }
 
-// The checks: lengths, the taps, the bytes of the set and of the table, a point in the set, the degree, the side.
+// The checks: lengths, the taps, the bytes of the set and of the table, the degree, the side.
 fn check_inputs(
     set: &[u8],
     table: &[u8],

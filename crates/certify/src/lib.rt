@@ -67,8 +67,7 @@ pub fn certify(
     }
 }
 
-// The checks of the inputs: lengths, the taps, the bytes of the set and of the table, a point in the set, the degree, the
-// side.
+// The checks of the inputs: lengths, the taps, the bytes of the set and of the table, the degree, the side.
 fn certify_checks(
     set: &[u8],
     table: &[u8],

@@ -20,6 +20,7 @@
 --   count-listed      a distinct list of numbers below m is as long as the count of its numbers
 --   member-all        m distinct numbers below m are all of them
 --   some-member       a list that is not empty has a member
+--   empty-nil         a list that is empty is []
 --   some-length       a list is not empty just if its length is at least 1
 use mathlib.Core.Path.{_≡_, refl, sym, ap, _∙_}
 use mathlib.Core.Logic.{_↔_, _⊎_, inl, inr}
@@ -224,6 +225,12 @@ pub some-member : (xs : List ℕ) → isEmpty xs ≡ false → (a : ℕ) × List
 unfolding isEmpty
 some-member [] e = absurd (false≢true (sym e))
 some-member (x ∷ xs) e = (x, List·Memᴰ·head refl)
+
+-- a list that is empty is []
+pub empty-nil : (xs : List ℕ) → isEmpty xs ≡ true → xs ≡ []
+unfolding isEmpty
+empty-nil [] e = refl
+empty-nil (x ∷ xs) e = absurd (false≢true e)
 
 -- a list is not empty just if its length is at least 1
 pub some-length : (xs : List ℕ) → (isEmpty xs ≡ false) ↔ (1 ≤ length xs)

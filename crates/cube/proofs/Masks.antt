@@ -22,12 +22,13 @@
 --   byte-member     a byte that is 0 or 1 is that of its bit
 --   points-inside   those of a well formed mask are points of n taps
 --   has-point-says  the test that a mask has points says that there is one
+--   point-or-none   there is one, or the mask has none
 --   mask-member     a mask marks what passes its test
 --   points-fewer    a mask that does not mark a number below 512 marks fewer than 512
 --   lists-marked    a number is listed among the points of a mask just if the mask marks it
 use mathlib.Core.Path.{_≡_, refl, sym, ap, _∙_}
 use mathlib.Core.Logic.{_↔_, _⊎_, inl, inr, ⊎-elim}
-use mathlib.Core.Bool.{Bool, true, false, not, false≢true}
+use mathlib.Core.Bool.{Bool, true, false, false≢true}
 use mathlib.Core.List.{List, [], _∷_, _++_, map, append-nil, List·Memᴰ, List·Memᴰ·head, List·Memᴰ·tail, List·Memᴰ·not-nil, List·Memᴰ·cases-cons}
 use Prim.Native.Nat.{ℕ, zero, suc, _+_, _-_, _≤_, _<_}
 use native.Mathlib.Omega.{arith}
@@ -36,7 +37,7 @@ use native.Mathlib.Nat.{zero-add}
 use native.Mathlib.Numerals.{add-one}
 use lib.Dec.{eqb, leb}
 use lib.ListN.{length, getD, length-append, List·getD-eq-default}
-use borrow.Author.Tests.{eqb-true, leb-true, eq-eqb, ne-eqb, le-leb, not-true}
+use borrow.Author.Tests.{eqb-true, leb-true, eq-eqb, ne-eqb, le-leb}
 use Rattle.cube.specs.NumberLists.{upFrom, below, consIf, select, lists, isEmpty, Inside}
 use Rattle.cube.specs.Cube.{size}
 use Rattle.cube.specs.Mask.{bitsThenZeros, wellFormed, WellFormed, member, marked, points, HasPoint, byte, mask}
@@ -212,14 +213,22 @@ points-inside n b w a m = elim (decLt a (size n)) [
 ]
 
 -- a list with a member is not empty
-member-some : (xs : List ℕ) (a : ℕ) → List·Memᴰ a xs → not (isEmpty xs) ≡ true
+member-some : (xs : List ℕ) (a : ℕ) → List·Memᴰ a xs → isEmpty xs ≡ false
 unfolding isEmpty
 member-some [] a m = absurd (List·Memᴰ·not-nil m)
 member-some (x ∷ xs) a m = refl
 
 -- the test that a mask has points says that there is one
-pub has-point-says : (b : List ℕ) → (not (isEmpty (points b)) ≡ true) ↔ HasPoint b
-has-point-says b = (λ e. some-member (points b) (not-true _ e), λ h. member-some (points b) (h .0) (h .1))
+pub has-point-says : (b : List ℕ) → (isEmpty (points b) ≡ false) ↔ HasPoint b
+has-point-says b = (λ e. some-member (points b) e, λ h. member-some (points b) (h .0) (h .1))
+
+-- there is one, or the mask has none
+pub point-or-none : (b : List ℕ) → HasPoint b ⊎ (points b ≡ [])
+point-or-none b = go (points b) refl
+  where
+    go : (ps : List ℕ) → points b ≡ ps → HasPoint b ⊎ (points b ≡ [])
+    go [] e = inr e
+    go (p ∷ ps) e = inl (p, rw e (List·Memᴰ·head refl))
 
 -- a mask marks what passes its test
 pub mask-member : (t : ℕ → Bool) (u : ℕ) → u < 512 → member (mask t) u ≡ t u

@@ -152,7 +152,7 @@ module _ (s f : List ℕ) (n side d : ℕ) (c : List ℕ) where
     yes-judged =
         let p = shown true e in (
           judged graded n s f,
-          judge-accepts graded n s f (p .filter) (p .some),
+          judge-accepts graded n s f (p .filter),
           equal-given graded n s f d (p .low) (few-taps n s f (p .filter)) side (p .up) .1 yes-ranks,
         )
 
@@ -176,8 +176,8 @@ module _ (s f : List ℕ) (n side d : ℕ) (c : List ℕ) where
   -- those that Judge gives
   differ-judged : (j : Judgement) → length c ≡ 4096 → side ≤ 1 → d ≤ n → JudgeAccepts graded n s f j → ¬ GivenEqual j side d → Answers false
   differ-judged j long up low e other =
-      let (filter, some, same) = judge-accepted graded n s f j e in
-      unequal (check-passes s f n side d (length c) filter some up low long)
+      let (filter, same) = judge-accepted graded n s f j e in
+      unequal (check-passes s f n side d (length c) filter up low long)
       (λ equal. other (subst (λ x. GivenEqual x side d) same (equal-given graded n s f d low (few-taps n s f filter) side up .1 equal)))
 
 module _ (s f : List ℕ) (n side d : ℕ) where
@@ -230,7 +230,7 @@ module _ (s f : List ℕ) (n side d : ℕ) where
       let accepts : certifyOutcome graded s f n side d 8192 4096 ≡ accepted c =
       ap₂ (λ i j. certifyOutcome graded s f n side d i j) (sym (p .workspace-long)) (sym (p .certificate-long)) ∙ e in
       let right : Certifies graded n d (points s) (part side s f) c = is-certifies (part-rising side s f) (certify-words n s f side d c accepts .is) in
-      let inputs = check-passes s f n side d (length c) (p .filter) (p .some) (p .up) (p .low) (right .long) in
+      let inputs = check-passes s f n side d (length c) (p .filter) (p .up) (p .low) (right .long) in
       let says = check-says graded s f n side d c inputs in
       says ∙ ap accepted (exact s f n side d c _ says .1 right)
 
@@ -239,7 +239,7 @@ module _ (s f : List ℕ) (n side d : ℕ) where
   refused-no m l c long e = ⊎-elim
       (λ (x, broken, number). absurd (eqb-false _ 12 (refused-other 12 (certifyInputs s f n side d m l) refl broken) number))
       (λ (passed, q). let p = certify-passed n s f side d m l passed in
-      unequal s f n side d c (check-passes s f n side d (length c) (p .filter) (p .some) (p .up) (p .low) long) (twelve 12 q .1))
+      unequal s f n side d c (check-passes s f n side d (length c) (p .filter) (p .up) (p .low) long) (twelve 12 q .1))
       (refused-either (certifyInputs s f n side d m l) _ 12 (sym (compared m l) ∙ e))
 
 -- each sentence of it

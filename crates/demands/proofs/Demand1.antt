@@ -10,7 +10,7 @@ use lib.Dec.{eqb}
 use lib.ListN.{length, drop}
 use borrow.Author.Tests.{eqb-true, eq-eqb, ne-eqb}
 use Rattle.refusal.specs.Outcome.{Outcome, refused, accepted, left, leftBy}
-use Rattle.refusal.proofs.Outcomes.{not-both}
+use Rattle.refusal.proofs.Outcomes.{not-both, number-not-6}
 use Rattle.cube.specs.NumberLists.{lists}
 use Rattle.cube.specs.Cube.{size}
 use Rattle.cube.specs.Mask.{mask}
@@ -25,7 +25,7 @@ use Rattle.filter_file.proofs.Encoded.{contents-encoded}
 use Rattle.filter_file.proofs.Decoded.{contents-decoded}
 use Rattle.filter_file.proofs.Continued.{refusal-stands}
 use Rattle.filter_file.proofs.Faults.{refused-fault}
-use Rattle.filter_file.proofs.ValidFilter.{size-small, valid-filter, valid-some}
+use Rattle.filter_file.proofs.ValidFilter.{size-small, valid-filter}
 use Rattle.immunity.specs.Judgement.{judged}
 use Rattle.judge.proofs.Passed.{judge-accepts}
 use Rattle.certify.specs.declared.CertifyAnswer.{CertifyAnswer}
@@ -33,11 +33,11 @@ use Rattle.certify.specs.Certify.{clearedUnless, CertifyContract}
 use Rattle.demands.specs.Demands.{Demand1}
 
 -- what is no file of anything that obeys the rules is refused
-refuses : (s : List ℕ) → Bytes s → ((c : Contents) → Valid c → s ≡ encode c → ⊥) → (k : ℕ) × (contents s ≡ refused k) × (2 ≤ k) × (k ≤ 7)
+refuses : (s : List ℕ) → Bytes s → ((c : Contents) → Valid c → s ≡ encode c → ⊥) → (k : ℕ) × (contents s ≡ refused k) × (2 ≤ k) × (k ≤ 7) × (k ≢ 6)
 refuses s h none = go (contents s) refl
   where
-    go : (o : Outcome Contents) → contents s ≡ o → (k : ℕ) × (contents s ≡ refused k) × (2 ≤ k) × (k ≤ 7)
-    go (refused k) e = let x = refusal-stands s [] e in (k, e, x .low, x .high)
+    go : (o : Outcome Contents) → contents s ≡ o → (k : ℕ) × (contents s ≡ refused k) × (2 ≤ k) × (k ≤ 7) × (k ≢ 6)
+    go (refused k) e = let x = refusal-stands s [] e in (k, e, x .low, x .high, (λ q. let (r, is) = x .named in number-not-6 r (sym is ∙ q)))
     go (accepted c) e = let (same, valid) = contents-decoded s h e in absurd (none c valid same)
 
 -- buffers of which one is not 512 long are refused by 1, others never
@@ -80,7 +80,7 @@ demand1 = record {
   set-points = λ s c h e. let (_, v) = contents-decoded s h e in points-listed (size (c .n)) (c .set) (size-small v) (v .set);
   table-points = λ s c h e. let (_, v) = contents-decoded s h e in points-listed (size (c .n)) (c .table) (size-small v) (v .table);
   read-judged = λ s c h e. let (_, v) = contents-decoded s h e in
-      (judged graded (c .n) (mask (lists (c .set))) (mask (lists (c .table))), judge-accepts graded _ _ _ (valid-filter v) (valid-some v));
+      (judged graded (c .n) (mask (lists (c .set))) (mask (lists (c .table))), judge-accepts graded _ _ _ (valid-filter v));
   read-keeps = λ o r s s′ f f′ k h e. (h .set ∙ ap (λ x. leftBy x s (λ c. mask (lists (c .set)))) e, h .table ∙ ap (λ x. leftBy x f (λ c. mask (lists (c .table)))) e);
   write-keeps = λ o r out out′ k h e. h .output ∙ ap (λ x. leftBy x out (λ file. file ++ drop (length file) out)) e;
   convert-keeps = λ n b b′ r k h e. h .leaves ∙ ap (λ x. left x b (converted n b)) e;

@@ -67,7 +67,7 @@ only n p t e h u l = to-table n t e u l ∙ value-same n (member t) (value n p) 
 
 -- Judge accepts up to nine taps, and judges as the definition says
 judged-few : (n : ℕ) (s f : List ℕ) (j : Judgement) → JudgeAccepts graded n s f j → (n ≤ 9) × (judged graded n s f ≡ j)
-judged-few n s f j e = let (h, _, is) = judge-accepted graded n s f j e in (few-taps n s f h, is)
+judged-few n s f j e = let (h, is) = judge-accepted graded n s f j e in (few-taps n s f h, is)
 
 module _ (n : ℕ) (s f : List ℕ) (j : Judgement) (e : JudgeAccepts graded n s f j) (d : ℕ) (low : d ≤ n) where
   -- the rank of the set that Judge gives is the number of rows kept

@@ -4,8 +4,8 @@
 use mathlib.Core.Path.{_≡_, refl, sym, ap, ap₂, _∙_, subst}
 use mathlib.Core.Logic.{_≢_}
 use mathlib.Core.Bool.{Bool, true, false}
-use mathlib.Core.List.{List}
-use mathlib.Core.Option.{Option, some, Option·getD}
+use mathlib.Core.List.{List, []}
+use mathlib.Core.Option.{some}
 use Prim.Native.Nat.{ℕ, _≤_, _<_}
 use lib.Dec.{eqb}
 use lib.ListN.{length, getD}
@@ -16,7 +16,7 @@ use Rattle.refusal.specs.declared.verdict.Verdict.the-variants as verdicts
 use Rattle.refusal.specs.Verdict.{verdict}
 use Rattle.refusal.proofs.Outcomes.{not-both}
 use Rattle.refusal.proofs.Verdicts.{checked-append, accepted-passes}
-use Rattle.cube.specs.NumberLists.{isEmpty, Inside}
+use Rattle.cube.specs.NumberLists.{Inside}
 use Rattle.cube.specs.Cube.{taps, size}
 use Rattle.cube.specs.Mask.{WellFormed, member, byte, points}
 use Rattle.cube.proofs.Masks.{byte-small, byte-member, formed-says, points-inside}
@@ -27,7 +27,9 @@ use Rattle.gf2.specs.Points.{Rising}
 use Rattle.gf2.specs.Rank.{Rank}
 use Rattle.gf2.specs.Meeting.{KeptPoint}
 use Rattle.point_rows.specs.Rows.{row, rows}
-use Rattle.matrix.specs.Matrix.{rankOf}
+use Rattle.gf2.specs.Elimination.{takePoints}
+use Rattle.packed.specs.Packed.{zeros}
+use Rattle.matrix.specs.Matrix.{eliminated, rankOf}
 use Rattle.matrix.specs.Kept.{keptMask}
 use Rattle.matrix.specs.declared.rank.Ranked.{Ranked}
 use Rattle.matrix.specs.declared.rank.RankAnswer.{RankAnswer}
@@ -46,7 +48,8 @@ use Rattle.immunity.specs.Ranks.{noRanks}
 use Rattle.immunity.specs.Judgement.{reported, keptBytes, Judgement, judged, setRank}
 use Rattle.immunity.proofs.Given.{set-given}
 use Rattle.immunity.proofs.PartPoints.{part-rising}
-use Rattle.immunity.proofs.Reported.{filter-reports}
+use Rattle.immunity.proofs.Reported.{reported-first}
+use Rattle.immunity.proofs.NoPoint.{mask-none, kept-none, none-empty}
 use Rattle.judge.specs.declared.JudgeAnswer.{JudgeAnswer}
 use Rattle.judge.specs.declared.Report.{Report}
 use Rattle.judge.specs.declared.Finding.the-variants as finding
@@ -161,27 +164,23 @@ judge-short s f n k p q l other =
 module _ (n : ℕ) (s f ws ws′ : List ℕ) (w w′ : Sides (List ℕ)) (m m′ : List ℕ) (a : JudgeAnswer) (r : Report)
     (h : JudgeContract (judgeOutcome graded s f n (length ws) (length (w .one)) (length (w .zero)) (length m)) ws ws′ w w′ m m′ a) (e : a .finding ≡ finding.Judged r)
   where
-    -- what Judge accepts is a filter whose set has a point, and what it answers and leaves is the definition's
-    judge-shown : Filter n s f × (isEmpty (points s) ≡ false) × (judged graded n s f ≡ judgementOf r (a .ranks) w′ m′)
+    -- what Judge accepts is a filter, and what it answers and leaves is the definition's
+    judge-shown : Filter n s f × (judged graded n s f ≡ judgementOf r (a .ranks) w′ m′)
     judge-shown = accepted-filter graded s f n _ _ _ _ _ (sym (ap (λ x. found x (a .ranks) w′ m′) (sym e) ∙ h .answers))
 
     -- the degree is the reported one
     degree-is : reported graded n s f ≡ some (r .degree)
     unfolding judged
-    degree-is = ap (λ (j : Judgement). j .degree) (judge-shown .2)
+    degree-is = ap (λ (j : Judgement). j .degree) (judge-shown .1)
 
     -- it is at most n
     degree-low : r .degree ≤ n
-    degree-low =
-        let (filter, has, _) = judge-shown in
-        let (k, is, first) = filter-reports graded-is-graded n s f filter has in
-        let same : k ≡ r .degree = ap (λ (o : Option ℕ). Option·getD o 0) (sym is ∙ degree-is) in
-        subst (λ x. x ≤ n) same (first .within)
+    degree-low = reported-first graded-is-graded (few-taps n s f (judge-shown .0)) s f (r .degree) degree-is .within
 
     -- the mask that it leaves is that of the definition at this degree
     judge-left : keptMask graded n (r .degree) (points s) ≡ m′
     unfolding judged keptBytes
-    judge-left = sym (ap (keptBytes graded n s) degree-is) ∙ ap (λ (j : Judgement). j .kept) (judge-shown .2)
+    judge-left = sym (ap (keptBytes graded n s) degree-is) ∙ ap (λ (j : Judgement). j .kept) (judge-shown .1)
 
     -- each sentence of it
     judge-words : KeptWords n (r .degree) (points s) m′
@@ -192,7 +191,7 @@ module _ (n : ℕ) (s f ws ws′ : List ℕ) (w w′ : Sides (List ℕ)) (m m′
     -- it marks as many points as the rank of the set that Judge gives there
     judge-many : length (points m′) ≡ getD (a .ranks) (r .degree) noRanks .set
     judge-many =
-        let (filter, _, same) = judge-shown in
+        let (filter, same) = judge-shown in
         let small : n ≤ 9 = few-taps n s f filter in
         ap (λ x. length (points x)) (sym judge-left)
         ∙ kept-as-many graded n (r .degree) (points s) small (points-rising s) (points-inside n s (filter .set-formed))
@@ -204,6 +203,23 @@ module _ (n : ℕ) (s f ws ws′ : List ℕ) (w w′ : Sides (List ℕ)) (m m′
     judge-ranked =
         let filter = judge-shown .0 in
         (ranking graded n (r .degree) (points s), rank-accepts graded s n (r .degree) (filter .set-long) (filter .tapped) (filter .set-formed) degree-low, judge-left)
+
+-- where Judge answers that there is no point, the mask that it leaves is that of the points kept at every degree: it is zeros
+judge-none : (n : ℕ) (s f ws ws′ : List ℕ) (w w′ : Sides (List ℕ)) (m m′ : List ℕ) (a : JudgeAnswer)
+    → JudgeContract (judgeOutcome graded s f n (length ws) (length (w .one)) (length (w .zero)) (length m)) ws ws′ w w′ m m′ a → a .finding ≡ finding.NoPoint
+    → (m′ ≡ zeros 512) × ((d : ℕ) → d ≤ n → KeptWords n d (points s) m′ × ((x : Ranking) × RankAccepts s n d x × (x .kept ≡ m′)))
+unfolding judged keptMask eliminated takePoints
+judge-none n s f ws ws′ w w′ m m′ a h e =
+    let (filter, is) = accepted-filter graded s f n _ _ _ _ _ (sym (ap (λ x. found x (a .ranks) w′ m′) (sym e) ∙ h .answers)) in
+    let empty : points s ≡ [] = none-empty graded-is-graded n s f filter (ap (λ (j : Judgement). j .degree) is) in
+    let zero : m′ ≡ zeros 512 = sym (ap (λ (j : Judgement). j .kept) is) ∙ kept-none graded n s f empty in
+    let left : (d : ℕ) → keptMask graded n d (points s) ≡ m′ = λ d. ap (keptMask graded n d) empty ∙ mask-none ∙ sym zero in (
+      zero,
+      λ d low. (
+        subst (KeptWords n d (points s)) (left d) (kept-words n d (points s) (filter .tapped) low (points-rising s) (points-inside n s (filter .set-formed))),
+        (ranking graded n d (points s), rank-accepts graded s n d (filter .set-long) (filter .tapped) (filter .set-formed) low, left d),
+      ),
+    )
 
 module _ (n : ℕ) (s f : List ℕ) (side d k l : ℕ) (b m : List ℕ) (checks : verdict (certifyInputs s f n side d k l) ≡ verdicts.Passed) (parts : points b ≡ part side s f) (kept : PartKept graded n d b m) where
   -- the mask that Certify goes by is that of the part's points
@@ -241,6 +257,7 @@ kept-masks = record {
   rank-length = λ b n d ws ws′ m m′ a other h. h .answers ∙ rank-short b n d (length ws) (length m) other;
   judge-marks = λ n s f ws ws′ w w′ m m′ a r h e. (judge-words n s f ws ws′ w w′ m m′ a r h e, judge-many n s f ws ws′ w w′ m m′ a r h e);
   judge-as-rank = judge-ranked;
+  judge-none = judge-none;
   judge-refusal = λ n s f ws ws′ w w′ m m′ a x h e. h .leaves-kept ∙ ap (λ (o : Outcome Judgement). leftBy o m (λ j. j .kept)) (sym (ap (λ y. found y (a .ranks) w′ m′) (sym e) ∙ h .answers));
   judge-length = λ n s f ws ws′ w w′ m m′ a other h. h .answers ∙ judge-short s f n (length ws) (length (w .one)) (length (w .zero)) (length m) other;
   certify-marks = certify-kept;

@@ -1,15 +1,14 @@
 -- What is promised of the mark on a set holds.
 --   set-mark   every sentence
 use mathlib.Core.Path.{_≡_, refl, sym, ap, _∙_}
-use mathlib.Core.Logic.{_↔_, _≢_}
-use mathlib.Core.Bool.{false}
+use mathlib.Core.Logic.{_↔_, _≢_, inl, inr}
 use mathlib.Core.List.{List, _++_, append-assoc}
-use mathlib.Core.Option.{some}
+use mathlib.Core.Option.{Option, none, some}
 use Prim.Native.Nat.{ℕ, _*_, _≤_}
 use native.Mathlib.Omega.{arith}
 use native.Mathlib.Decide.{decLt, ℕ-discrete}
 use lib.ListN.{length}
-use Rattle.cube.specs.NumberLists.{lists, Inside, isEmpty}
+use Rattle.cube.specs.NumberLists.{lists, Inside}
 use Rattle.cube.specs.Cube.{size}
 use Rattle.cube.specs.Mask.{points, mask}
 use Rattle.cube.proofs.Masks.{points-inside}
@@ -27,26 +26,24 @@ use Rattle.immunity.specs.Annihilator.{LowestDegree}
 use Rattle.immunity.specs.Mark.{markOf}
 use Rattle.immunity.specs.Judgement.{reported, sideDegree, Judgement, judged, setRank, GivenEqual}
 use Rattle.immunity.proofs.Given.{set-given, equal-given}
-use Rattle.immunity.proofs.Mark.{mark-first, mark-exists, mark-all, equal-most, reported-mark}
-use Rattle.immunity.proofs.Reported.{filter-reports}
+use Rattle.immunity.proofs.Mark.{mark-first, mark-all, equal-most, reported-mark}
+use Rattle.immunity.proofs.Reported.{reported-first}
+use Rattle.immunity.proofs.NoPoint.{reported-point, mark-point}
 use Rattle.immunity.proofs.SideDegrees.{side-lowest, sides-smaller, sides-one}
 use Rattle.judge.specs.Judge.{judgeOutcome, judgementOf, found, JudgeAccepts}
 use Rattle.judge.proofs.Passed.{accepted-filter, judge-accepted, judge-accepts, found-judged}
-use Rattle.text.specs.Text.{Text, labelled, newline}
-use Rattle.sheet_lines.specs.Lines.{firstLine, rankLines, additionsLine}
-use Rattle.sheet_text.specs.Sheet.{reportLines, judgementSheet}
+use Rattle.text.specs.Text.{Text, ascii}
+use Rattle.sheet_lines.specs.Lines.{firstLine, rankLines, degreeLine, sidesLine, additionsLine}
+use Rattle.sheet_text.specs.Sheet.{sums, judgementSheet}
 use Rattle.demands.specs.Mark.{Exceeds, FirstExceeds, MarkWords, SetMark}
 use Rattle.demands.proofs.SheetWords.{sheet-words}
-use Rattle.demands.proofs.Unreached.{seventeen, seventeen-filter, seventeen-some, seventeen-mark, degree-most}
+use Rattle.demands.proofs.Unreached.{seventeen, seventeen-filter, seventeen-mark, degree-most}
 
 -- the reported degree of a filter is at most the mark on its set
-never-over : (n : ℕ) (s f : List ℕ) → Filter n s f → isEmpty (points s) ≡ false → (k m : ℕ) → reported graded n s f ≡ some k → markOf graded n s ≡ some m → k ≤ m
-never-over n s f p has k m h e =
-    let (i, is, r) = filter-reports graded-is-graded n s f p has in
-    let same : k ≡ i = cc in
-    rw same (reported-mark graded n s f (p .table-formed) i m r e)
+never-over : (n : ℕ) (s f : List ℕ) → Filter n s f → (k m : ℕ) → reported graded n s f ≡ some k → markOf graded n s ≡ some m → k ≤ m
+never-over n s f p k m h e = reported-mark graded n s f (p .table-formed) k m (reported-first graded-is-graded (few-taps n s f p) s f k h) e
 
-module _ (n : ℕ) (s f : List ℕ) (p : Filter n s f) (has : isEmpty (points s) ≡ false) where
+module _ (n : ℕ) (s f : List ℕ) (p : Filter n s f) where
   -- the judgement
   abbrev j : Judgement
   j = judged graded n s f
@@ -88,32 +85,33 @@ module _ (n : ℕ) (s f : List ℕ) (p : Filter n s f) (has : isEmpty (points s)
   smallest : (side other d : ℕ) → side ≤ 1 → other ≤ 1 → other ≢ side → sideDegree graded n s f side ≡ some d
       → ((e : ℕ) → sideDegree graded n s f other ≡ some e → d ≤ e) → (m : ℕ) → markOf graded n s ≡ some m → d ≤ m
   smallest side other d l l′ apart own least m e =
-      let (k, is, r) = filter-reports graded-is-graded n s f p has in
-      let (i, u, of-k) = sides-one graded n s f k r in
+      let (k, is) = reported-point graded-is-graded n s f p .1 (mark-point graded-is-graded n s f p .0 (m, e)) in
+      let (i, u, of-k) = sides-one graded n s f k (reported-first graded-is-graded small s f k is) in
       elim (ℕ-discrete i side) [
-        | yes q ↦ (let same : d ≡ k = cc in rw same (never-over n s f p has k m is e))
-        | no q ↦ (let q′ : i ≡ other = omega arith in omega (arith, least k (ap (sideDegree graded n s f) (sym q′) ∙ of-k), never-over n s f p has k m is e))
+        | yes q ↦ (let same : d ≡ k = cc in rw same (never-over n s f p k m is e))
+        | no q ↦ (let q′ : i ≡ other = omega arith in omega (arith, least k (ap (sideDegree graded n s f) (sym q′) ∙ of-k), never-over n s f p k m is e))
       ]
 
   -- each sentence, of one n, set and table
   mark-words : MarkWords n s f j
   unfolding judged
   mark-words =
-      let (k, is, r) = filter-reports graded-is-graded n s f p has in
-      let (side, l, of-k) = sides-one graded n s f k r in
       let own : (i : ℕ) → i ≤ 1 → ofSide i (j .degrees) ≡ sideDegree graded n s f i = of-both (sideDegree graded n s f) in
-      let w : LowestDegree n (part side s f) (points s) k = side-lowest graded-is-graded small s f side k .0 of-k in
       record {
         first = first-exceeds;
         full-rank = given n (omega arith) ∙ rank-full graded-is-graded small s inside;
-        exists = mark-exists graded-is-graded small s inside has;
+        exists = mark-point graded-is-graded n s f p;
         neither-differs = equal-under;
-        reported-below = never-over n s f p has;
-        smaller-below = λ i m h e. never-over n s f p has i m (sides-smaller graded n s f ∙ h) e;
+        reported-below = never-over n s f p;
+        smaller-below = λ i m h e. never-over n s f p i m (sides-smaller graded n s f ∙ h) e;
         side-below = λ i other d m u v apart e least h. smallest i other d u v apart (sym (own i u) ∙ e) (λ x q. least x (own other v ∙ q)) m h;
-        annihilator = λ m e. (side, w .polynomial, k, l, w .annihilates, w .has-degree, never-over n s f p has k m is e);
-        any-table = λ g i h. ap (λ (x : Judgement). x .mark) (sym (judge-accepted graded n s g i h .2));
-        none-passes = λ g i x m h e q. let (filter, _, same) = judge-accepted graded n s g i h in never-over n s g filter has x m (ap (λ (y : Judgement). y .degree) same ∙ e) q;
+        annihilator = λ m e.
+            let (k, is) = reported-point graded-is-graded n s f p .1 (mark-point graded-is-graded n s f p .0 (m, e)) in
+            let (side, l, of-k) = sides-one graded n s f k (reported-first graded-is-graded small s f k is) in
+            let w : LowestDegree n (part side s f) (points s) k = side-lowest graded-is-graded small s f side k .0 of-k in
+            (side, w .polynomial, k, l, w .annihilates, w .has-degree, never-over n s f p k m is e);
+        any-table = λ g i h. ap (λ (x : Judgement). x .mark) (sym (judge-accepted graded n s g i h .1));
+        none-passes = λ g i x m h e q. let (filter, same) = judge-accepted graded n s g i h in never-over n s g filter x m (ap (λ (y : Judgement). y .degree) same ∙ e) q;
         all-points = mark-all graded-is-graded small s;
       }
 
@@ -121,43 +119,49 @@ module _ (n : ℕ) (s f : List ℕ) (p : Filter n s f) (has : isEmpty (points s)
 below-mark : (f : List ℕ) (j : Judgement) → JudgeAccepts graded 5 seventeen f j → (j .mark ≡ some 2) × ((k : ℕ) → j .degree ≡ some k → k ≤ 1)
 unfolding judged
 below-mark f j e =
-    let (filter, has, is) = judge-accepted graded 5 seventeen f j e in
-    let (i, q, r) = filter-reports graded-is-graded 5 seventeen f filter has in
-    let low : i ≤ 1 = degree-most f i r in
-    (sym (ap (λ (x : Judgement). x .mark) is) ∙ seventeen-mark, λ k h. let same : k ≡ i = cc (sym q ∙ ap (λ (x : Judgement). x .degree) is ∙ h) in omega arith)
+    let (filter, is) = judge-accepted graded 5 seventeen f j e in (
+      sym (ap (λ (x : Judgement). x .mark) is) ∙ seventeen-mark,
+      λ k h. degree-most f k (reported-first graded-is-graded (few-taps 5 seventeen f filter) seventeen f k (ap (λ (x : Judgement). x .degree) is ∙ h)),
+    )
 
 -- the first line of a judgement's sheet, and the rest
-first-printed : (n : ℕ) (s f : List ℕ) (j : Judgement) (m : ℕ) → j .mark ≡ some m → (rest : Text)
-    × (judgementSheet n s f j ≡ labelled "n" n ++ labelled " points" (length (points s)) ++ labelled " mark" m ++ newline ++ rest)
+first-printed : (n : ℕ) (s f : List ℕ) (j : Judgement) (x : Option ℕ) → j .mark ≡ x → (rest : Text) × (judgementSheet n s f j ≡ firstLine n (length (points s)) x ++ rest)
 unfolding judgementSheet
-first-printed n s f j m e =
+first-printed n s f j x e =
     let ranks : Text = rankLines n (j .ranks) in
-    let lines : Text = reportLines n s f j (j .degree) in
+    let line : Text = degreeLine (j .degree) (j .side) (j .witnesses) in
+    let own : Text = sidesLine (j .degrees) in
+    let below : Text = sums n s f (j .degree) in
     let last : Text = additionsLine (j .additions) in
-    let first : Text = firstLine n (length (points s)) (j .mark) in
-    (ranks ++ (lines ++ last), append-assoc (first ++ ranks) lines last ∙ append-assoc first ranks (lines ++ last) ∙ ap (λ x. firstLine n (length (points s)) x ++ (ranks ++ (lines ++ last))) e)
+    let first : Text = firstLine n (length (points s)) (j .mark) in (
+      ranks ++ (line ++ (own ++ (below ++ last))),
+      append-assoc (first ++ ranks ++ line ++ own) below last ∙ append-assoc (first ++ ranks ++ line) own (below ++ last) ∙ append-assoc (first ++ ranks) line (own ++ (below ++ last))
+          ∙ append-assoc first ranks (line ++ (own ++ (below ++ last))) ∙ ap (λ m. firstLine n (length (points s)) m ++ (ranks ++ (line ++ (own ++ (below ++ last))))) e,
+    )
 
 -- each sentence of what Judge accepts
 words : (n : ℕ) (s f : List ℕ) (j : Judgement) → JudgeAccepts graded n s f j → MarkWords n s f j
-words n s f j e = let (h, has, is) = judge-accepted graded n s f j e in rw (← is) (mark-words n s f h has)
+words n s f j e = let (h, is) = judge-accepted graded n s f j e in rw (← is) (mark-words n s f h)
 
 -- every sentence
 pub set-mark : SetMark
+unfolding ascii
 set-mark = record {
   every = words;
-  unreached = ((seventeen, judged graded 5 seventeen seventeen, judge-accepts graded 5 seventeen seventeen seventeen-filter seventeen-some), below-mark);
-  answered = λ o ws ws′ w w′ m m′ a j h e.
-      let (r, is, same) = found-judged (a .finding) (a .ranks) w′ m′ j (h .answers ∙ e) in
-      (r, is, ap (λ (i : Judgement). i .mark) same, ap (λ (i : Judgement). i .degree) same);
+  unreached = ((seventeen, judged graded 5 seventeen seventeen, judge-accepts graded 5 seventeen seventeen seventeen-filter), below-mark);
+  answered = λ o ws ws′ w w′ m m′ a j h e. elim (found-judged (a .finding) (a .ranks) w′ m′ j (h .answers ∙ e)) [
+    | inl (r, is, same) ↦ inl (r, is, ap (λ (i : Judgement). i .mark) same, ap (λ (i : Judgement). i .degree) same)
+    | inr (is, same) ↦ inr (is, sym (ap (λ (i : Judgement). i .mark) same), sym (ap (λ (i : Judgement). i .degree) same))
+  ];
   report-below = λ n s f ws ws′ w w′ m m′ a r h e.
       let is : judgeOutcome graded s f n (length ws) (length (w .one)) (length (w .zero)) (length m) ≡ accepted (judgementOf r (a .ranks) w′ m′) = sym (ap (λ x. found x (a .ranks) w′ m′) (sym e) ∙ h .answers) in
-      let (filter, has, same) = accepted-filter graded s f n _ _ _ _ _ is in
-      let x : MarkWords n s f (judgementOf r (a .ranks) w′ m′) = rw (← same) (mark-words n s f filter has) in
+      let (filter, same) = accepted-filter graded s f n _ _ _ _ _ is in
+      let x : MarkWords n s f (judgementOf r (a .ranks) w′ m′) = rw (← same) (mark-words n s f filter) in
       (x .reported-below (r .degree) (r .mark) refl refl, x .first (r .mark) .0 refl .within);
-  printed = λ file c j e h.
-      let s : List ℕ = mask (lists (c .set)) in
-      let f : List ℕ = mask (lists (c .table)) in
-      let (m, mark) = words (c .n) s f j h .exists in
-      let (rest, first) = first-printed (c .n) s f j m mark in
-      (m, mark, rest, sheet-words .sheet-judged file c j e h ∙ first);
+  printed = λ file c j m e h mark.
+      let (rest, first) = first-printed (c .n) (mask (lists (c .set))) (mask (lists (c .table))) j (some m) mark in
+      (rest, sheet-words .sheet-judged file c j e h ∙ first);
+  printed-none = λ file c j e h mark.
+      let (rest, first) = first-printed (c .n) (mask (lists (c .set))) (mask (lists (c .table))) j none mark in
+      (rest, sheet-words .sheet-judged file c j e h ∙ first);
 }

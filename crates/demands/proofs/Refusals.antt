@@ -18,7 +18,7 @@ use Rattle.refusal.specs.Outcome.{refused}
 use Rattle.refusal.proofs.Rules.{nothing, _also_, refused-first}
 use Rattle.cube.specs.Mask.{points}
 use Rattle.cube.proofs.Taps.{taps-range}
-use Rattle.cube.proofs.Masks.{formed-says, has-point-says}
+use Rattle.cube.proofs.Masks.{formed-says}
 use Rattle.order.specs.BuiltIn.{graded}
 use Rattle.gf2.specs.Rank.{Rank}
 use Rattle.gf2.proofs.Rank.{rank-unique}
@@ -72,7 +72,7 @@ pub judge-refuses : (n : ℕ) (s f : List ℕ) (m p q l k : ℕ) → (judgeOutco
 unfolding judgeOutcome
 judge-refuses n s f m p q l k = refused-first (judged graded n s f) k {cs = judgeChecks s f n m p q l} {rs = judgeRules s f n m p q l}
     (equal-says (length s) 512 also equal-says (length f) 512 also equal-says m 8192 also equal-says p 512 also equal-says q 512 also equal-says l 512
-    also taps-range n also formed-says n s also formed-says n f also has-point-says s also nothing)
+    also taps-range n also formed-says n s also formed-says n f also nothing)
 
 -- what Certify refuses
 pub certify-refuses : (n : ℕ) (s f : List ℕ) (side d m l k : ℕ) → (certifyOutcome graded s f n side d m l ≡ refused k)
@@ -81,7 +81,7 @@ unfolding certifyOutcome
 certify-refuses n s f side d m l k = refused-first (certificate graded n s f side d) k
     {cs = certifyInputs s f n side d m l ++ ranksEqual graded s f n side d} {rs = certifyRules s f n side d m l}
     (equal-says (length s) 512 also equal-says (length f) 512 also equal-says m 8192 also equal-says l 4096 also taps-range n
-    also formed-says n s also formed-says n f also has-point-says s also most-says d n also most-says side 1 also equal-ranks-say n d s f side also nothing)
+    also formed-says n s also formed-says n f also most-says d n also most-says side 1 also equal-ranks-say n d s f side also nothing)
 
 -- what Check refuses
 pub check-refuses : (s f : List ℕ) (n side d : ℕ) (c : List ℕ) (k : ℕ) → (checkOutcome graded s f n side d c ≡ refused k)
@@ -90,11 +90,11 @@ unfolding checkOutcome
 check-refuses s f n side d c k = refused-first (certifies graded n d (points s) (part side s f) c) k
     {cs = checkInputs s f n side d (length c)} {rs = checkRules s f n side d (length c)}
     (equal-says (length s) 512 also equal-says (length f) 512 also equal-says (length c) 4096 also taps-range n
-    also formed-says n s also formed-says n f also has-point-says s also most-says d n also most-says side 1 also nothing)
+    also formed-says n s also formed-says n f also most-says d n also most-says side 1 also nothing)
 
 -- what Write refuses
 pub write-refuses : (n : ℕ) (s f : List ℕ) (m k : ℕ) → (writeOutcome s f n m ≡ refused k) ↔ FirstBroken (writeRules s f n m) k
 unfolding writeOutcome
 write-refuses n s f m k = refused-first (fileOf n s f) k {cs = writeInputs s f n ++ roomFor (length (fileOf n s f)) m} {rs = writeRules s f n m}
-    (equal-says (length s) 512 also equal-says (length f) 512 also taps-range n also formed-says n s also formed-says n f also has-point-says s
+    (equal-says (length s) 512 also equal-says (length f) 512 also taps-range n also formed-says n s also formed-says n f
     also most-says (length (fileOf n s f)) m also nothing)

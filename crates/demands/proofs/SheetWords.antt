@@ -29,7 +29,7 @@ unfolding sheet
 sheet-judged file c j e h =
     let s : List ℕ = mask (lists (c .set)) in
     let f : List ℕ = mask (lists (c .table)) in
-    let (_, _, is) = judge-accepted graded (c .n) s f j h in
+    let (_, is) = judge-accepted graded (c .n) s f j h in
     ap sheetOf e ∙ ap (judgementSheet (c .n) s f) is
 
 -- and what Certify writes

@@ -1,7 +1,6 @@
 -- A set on which no filter reaches the mark: the points 0 to 16 of five taps.
 --   seventeen          their mask
 --   seventeen-filter   as set and as table it is a filter
---   seventeen-some     the set has a point
 --   seventeen-mark     its mark is 2: computed
 --   degree-most        each filter on the set has a degree of at most 1: x1 is zero on the part without 16, and one at 16
 use mathlib.Core.Path.{_≡_, refl, sym, ap, _∙_}
@@ -14,7 +13,7 @@ use lib.Count.{ones, onesIn}
 use lib.Dec.{eqb, ltb}
 use lib.ListN.{length, getD}
 use borrow.Author.Tests.{eqb-true, eqb-false, ne-eqb, ltb-true}
-use Rattle.cube.specs.NumberLists.{upFrom, consIf, select, isEmpty}
+use Rattle.cube.specs.NumberLists.{upFrom, consIf, select}
 use Rattle.cube.specs.Cube.{size, within}
 use Rattle.cube.specs.Mask.{wellFormed, points, mask}
 use Rattle.cube.proofs.Bits.{within-self, within-smaller}
@@ -44,11 +43,6 @@ seventeen-filter =
     let long : length seventeen ≡ 512 = length-mask (λ u. ltb u 17) in
     let formed : wellFormed 5 seventeen ≡ true = mask-well-formed 5 (λ u. ltb u 17) (λ u e. omega (arith, ltb-true u 17 e)) in
     record { set-long = long; table-long = long; tapped = refl; set-formed = formed; table-formed = formed }
-
--- the set has a point
-pub seventeen-some : isEmpty (points seventeen) ≡ false
-unfolding isEmpty select consIf upFrom
-seventeen-some = refl
 
 -- its mark is 2: computed
 pub seventeen-mark : markOf graded 5 seventeen ≡ some 2

@@ -1,6 +1,7 @@
 -- What is promised of the weight of an exponent holds.
 --   weight-words   all of it
 use mathlib.Core.Path.{_≡_, refl, sym, ap, _∙_}
+use mathlib.Core.Bool.{not}
 use mathlib.Core.List.{List}
 use Prim.Native.Nat.{ℕ, _≤_, _<_}
 use native.Mathlib.Nat.{lt-of-lt-of-le}
@@ -40,7 +41,7 @@ module _ (n u : ℕ) (t : Taps n) (l : u < size n) where
   unfolding degreeOutcome
   accepts =
       let formed = mask-well-formed n (eqb u) (λ v e. rw (sym (eqb-true u v e)) l) in
-      let some = has-point-says alone .1 (u, member-points alone u .1 (chosen-is u l ∙ eq-eqb u u refl)) in
+      let some = ap not (has-point-says alone .1 (u, member-points alone u .1 (chosen-is u l ∙ eq-eqb u u refl))) in
       let right = eq-eqb (length alone) 512 (length-mask (eqb u)) in
       (_, verdict-passes (degreeChecks n alone) _ (all-passed (degreeChecks n alone) (right, (taps-range n .1 t, (formed, (some, tt))))))
 

@@ -1,8 +1,9 @@
 -- What is promised of Write holds.
+--   back-read     what the contract of Read says of a file that is taken back
+--   leaves-file   what the contract of Write says of an outcome that accepts
 --   round-trips   each sentence of it
 use mathlib.Core.Path.{_≡_, refl, sym, ap, _∙_, subst}
 use mathlib.Core.Logic.{_↔_}
-use mathlib.Core.Bool.{false}
 use mathlib.Core.List.{List, _++_}
 use Prim.Native.Nat.{ℕ, _≤_}
 use native.Mathlib.Omega.{arith}
@@ -11,8 +12,8 @@ use lib.Seq.{take-at, drop-at}
 use Rattle.refusal.specs.Outcome.{Outcome, accepted, mapped, leftBy}
 use Rattle.refusal.proofs.Outcomes.{mapped-refused, mapped-accepted}
 use Rattle.refusal.proofs.Verdicts.{accepted-passes}
-use Rattle.cube.specs.NumberLists.{isEmpty, lists}
-use Rattle.cube.specs.Mask.{points, mask}
+use Rattle.cube.specs.NumberLists.{lists}
+use Rattle.cube.specs.Mask.{mask}
 use Rattle.cube.proofs.MaskOf.{mask-points}
 use Rattle.order.specs.BuiltIn.{graded}
 use Rattle.varint.specs.Varint.{Bytes}
@@ -25,7 +26,7 @@ use Rattle.filter_file.specs.Write.{contentsOf, fileOf, writeOutcome, WriteCont
 use Rattle.filter_file.proofs.Encoded.{contents-encoded, encoded-bytes}
 use Rattle.filter_file.proofs.Decoded.{contents-decoded}
 use Rattle.filter_file.proofs.Longest.{longest}
-use Rattle.filter_file.proofs.ValidFilter.{valid-filter, valid-some, filter-valid, valid-again}
+use Rattle.filter_file.proofs.ValidFilter.{valid-filter, filter-valid, valid-again}
 use Rattle.filter_file.proofs.WriteOutcome.{write-accepted, write-accepts, short-only, refused-inputs}
 use Rattle.immunity.specs.Judgement.{judged}
 use Rattle.judge.specs.Judge.{judgeOutcome}
@@ -34,27 +35,27 @@ use Rattle.demands.specs.Write.{ReadBack, RoundTrips}
 use Rattle.demands.proofs.Refusals.{write-refuses}
 
 module _ {n : ℕ} {s f : List ℕ} where
-  -- Read takes the file of a filter whose set has a point back to it
-  file-back : Filter n s f → isEmpty (points s) ≡ false → ReadBack (fileOf n s f) n s f
+  -- Read takes the file of a filter back to it
+  file-back : Filter n s f → ReadBack (fileOf n s f) n s f
   unfolding readOutcome
-  file-back h some =
-      let valid = filter-valid h some in (
+  file-back h =
+      let valid = filter-valid h in (
         encoded-bytes (contentsOf n s f) valid,
         (contentsOf n s f, contents-encoded (contentsOf n s f) valid, refl, mask-points n s (h .set-long) (h .set-formed), mask-points n f (h .table-long) (h .table-formed)),
       )
 
-  -- what it takes a file back to is such a filter, and the file is that filter's
-  back-file : (file : List ℕ) → ReadBack file n s f → Filter n s f × (isEmpty (points s) ≡ false) × (fileOf n s f ≡ file)
+  -- what it takes a file back to is a filter, and the file is that filter's
+  back-file : (file : List ℕ) → ReadBack file n s f → Filter n s f × (fileOf n s f ≡ file)
   unfolding readOutcome
   back-file file (bytes, (c, e, taps, set, table)) =
       let (same, valid) = contents-decoded file bytes e in
-      rw (← taps, ← set, ← table) (valid-filter valid, valid-some valid, ap encode (valid-again valid) ∙ sym same)
+      rw (← taps, ← set, ← table) (valid-filter valid, ap encode (valid-again valid) ∙ sym same)
 
   -- Write writes exactly what Read takes back
   writes : (m : ℕ) (file : List ℕ) → WriteAccepts n s f m file ↔ (ReadBack file n s f × (length file ≤ m))
   writes m file = (
-    λ e. let (h, some, same, l) = write-accepted n s f m file e in (subst (λ x. ReadBack x n s f) same (file-back h some), l),
-    λ (back, l). let (h, some, same) = back-file file back in write-accepts n s f m h some (omega (arith, ap length same)) ∙ ap accepted same,
+    λ e. let (h, same, l) = write-accepted n s f m file e in (subst (λ x. ReadBack x n s f) same (file-back h), l),
+    λ (back, l). let (h, same) = back-file file back in write-accepts n s f m h (omega (arith, ap length same)) ∙ ap accepted same,
   )
 
   -- a file is taken back to one triple
@@ -67,7 +68,7 @@ module _ {n : ℕ} {s f : List ℕ} where
       )
 
 -- what the contract of Read says of a file that is taken back
-back-read : {n : ℕ} {s f : List ℕ} (file : List ℕ) → ReadBack file n s f → (r : ReadAnswer) (set₀ set₁ table₀ table₁ : List ℕ) → length set₀ ≡ 512 → length table₀ ≡ 512
+pub back-read : {n : ℕ} {s f : List ℕ} (file : List ℕ) → ReadBack file n s f → (r : ReadAnswer) (set₀ set₁ table₀ table₁ : List ℕ) → length set₀ ≡ 512 → length table₀ ≡ 512
     → ReadContract (readOutcome (length set₀) (length table₀) file) r set₀ set₁ table₀ table₁ → (readingOf r ≡ accepted n) × (set₁ ≡ s) × (table₁ ≡ f)
 back-read file (_, (c, e, taps, set, table)) r set₀ set₁ table₀ table₁ long-set long-table h =
     let reads : readOutcome (length set₀) (length table₀) file ≡ accepted c = rw (long-set, long-table) e in (
@@ -89,7 +90,7 @@ read-back file set₀ set₁ table₀ table₁ bytes h a =
 
 module _ {w : WriteAnswer} {out₀ out₁ : List ℕ} where
   -- what the contract of Write says of an outcome that accepts
-  leaves-file : {o : Outcome (List ℕ)} {file : List ℕ} → WriteContract o w out₀ out₁ → o ≡ accepted file
+  pub leaves-file : {o : Outcome (List ℕ)} {file : List ℕ} → WriteContract o w out₀ out₁ → o ≡ accepted file
       → (writingOf w ≡ accepted (length file)) × (out₁ ≡ file ++ drop (length file) out₀)
   leaves-file h e = (h .answer ∙ ap (mapped length) e, h .output ∙ ap (λ x. leftBy x out₀ (λ y. y ++ drop (length y) out₀)) e)
 
@@ -109,14 +110,14 @@ round-trips = record {
   one-file = λ n s f (m, file, e). (
     file,
     writes m file .0 e .0,
-    λ other back. sym (back-file other back .2) ∙ write-accepted n s f m file e .2,
+    λ other back. sym (back-file other back .1) ∙ write-accepted n s f m file e .1,
   );
   short = λ n s f m. (
-    λ e. let (h, some, l) = short-only n s f m .0 e in (fileOf n s f, file-back h some, l),
-    λ (file, back, l). let (h, some, same) = back-file file back in short-only n s f m .1 (h, some, omega (arith, ap length same)),
+    λ e. let (h, l) = short-only n s f m .0 e in (fileOf n s f, file-back h, l),
+    λ (file, back, l). let (h, same) = back-file file back in short-only n s f m .1 (h, omega (arith, ap length same)),
   );
-  enough = λ n s f m (m′, file, e) l. let (h, some, _, _) = write-accepted n s f m′ file e in
-      (fileOf n s f, write-accepts n s f m h some (omega (arith, longest (contentsOf n s f) (filter-valid h some))));
+  enough = λ n s f m (m′, file, e) l. let (h, _, _) = write-accepted n s f m′ file e in
+      (fileOf n s f, write-accepts n s f m h (omega (arith, longest (contentsOf n s f) (filter-valid h))));
   accepted-leaves = λ o w out₀ out₁ file h e. let (answer, leaves) = leaves-file h e in (
     answer,
     ap (take (length file)) leaves ∙ take-at file (drop (length file) out₀) (length file) refl,
@@ -125,8 +126,8 @@ round-trips = record {
   refuses = write-refuses;
   refusal-answered = λ o w out₀ out₁ k h. (λ a. mapped-refused length o (sym (h .answer) ∙ a), λ e. h .answer ∙ ap (mapped length) e);
   accepts-as-judge = λ n s f. (
-    λ (m, file, e). let (h, some, _, _) = write-accepted n s f m file e in (judged graded n s f, judge-accepts graded n s f h some),
-    λ (j, e). let (h, some, _) = judge-accepted graded n s f j e in (length (fileOf n s f), fileOf n s f, write-accepts n s f (length (fileOf n s f)) h some (omega arith)),
+    λ (m, file, e). let (h, _, _) = write-accepted n s f m file e in (judged graded n s f, judge-accepts graded n s f h),
+    λ (j, e). let (h, _) = judge-accepted graded n s f j e in (length (fileOf n s f), fileOf n s f, write-accepts n s f (length (fileOf n s f)) h (omega arith)),
   );
   refuses-as-judge = λ n s f m k other. refused-inputs n s f (judged graded n s f) m k other;
 }

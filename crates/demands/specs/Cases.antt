@@ -2,7 +2,7 @@
 --   Fact            an answer that is expected
 --   Case            the number of taps, the points of the set, the points where the table is 1, and the expected answers
 --   sameList xs ys  whether two lists are the same
---   isDegree k o    whether a degree is given, and is k
+--   sameOption x y  whether two options are the same: both none, or the same number
 --   onAccepted t o  whether an outcome accepts, with values that pass the test t
 --   isRefused k o   whether an outcome is a refusal by the number k
 --   textOf ls       the text of lines
@@ -18,7 +18,7 @@ use Prim.Native.Nat.{ℕ, _+_}
 use Prim.Native.String.{String}
 use lib.Dec.{eqb}
 use Rattle.cube.specs.NumberLists.{below, select, lists}
-use Rattle.cube.specs.Mask.{member, mask}
+use Rattle.cube.specs.Mask.{member, points, mask}
 use Rattle.order.specs.BuiltIn.{graded}
 use Rattle.refusal.specs.Outcome.{Outcome, refused, accepted}
 use Rattle.polynomial.specs.Convert.{convertOutcome, convertLeaves}
@@ -43,14 +43,18 @@ pub data Fact : Type 0 where
   ranks : ℕ → ℕ → ℕ → ℕ → Fact
   -- at the degrees from 0 to n, Judge gives the set these ranks
   setRanks : List ℕ → Fact
-  -- Judge gives the set this mark
-  mark : ℕ → Fact
-  -- Judge reports this degree
-  degree : ℕ → Fact
-  -- and this side
-  side : ℕ → Fact
-  -- the witness of the side that Judge gives has these exponents, in graded order
-  witness : List ℕ → Fact
+  -- Judge gives the set this mark, or none
+  mark : Option ℕ → Fact
+  -- Judge reports this degree, or none
+  degree : Option ℕ → Fact
+  -- and this side, or none
+  side : Option ℕ → Fact
+  -- and these as the own degrees of side 1 and side 0
+  sides : Option ℕ → Option ℕ → Fact
+  -- the witness of a side has these exponents, in graded order
+  witness : ℕ → List ℕ → Fact
+  -- Judge keeps these points of the set
+  kept : List ℕ → Fact
   -- the file of n, the set and the table has these bytes, and its sheet these lines
   printed : List ℕ → List String → Fact
 
@@ -68,10 +72,12 @@ sameList [] (y ∷ ys) = false
 sameList (x ∷ xs) [] = false
 sameList (x ∷ xs) (y ∷ ys) = eqb x y && sameList xs ys
 
--- a degree is given, and is k
-unfoldable pub isDegree : ℕ → Option ℕ → Bool
-isDegree k none = false
-isDegree k (some j) = eqb j k
+-- both are none, or the same number
+unfoldable pub sameOption : Option ℕ → Option ℕ → Bool
+sameOption none none = true
+sameOption none (some y) = false
+sameOption (some x) none = false
+sameOption (some x) (some y) = eqb x y
 
 -- an acceptance with values that pass a test
 unfoldable pub onAccepted : {A : Type 0} → (A → Bool) → Outcome A → Bool
@@ -95,10 +101,12 @@ holdsFact c s f o (noDegree k) = onAccepted (λ x. isRefused k (degreeOutcome (c
 holdsFact c s f o (rank d r) = onAccepted (λ x. eqb (x .rank) r) (rankOutcome graded s (c .taps) d 8192 512)
 holdsFact c s f o (ranks d x y z) = onAccepted (λ j. eqb (setRank j d) x && eqb (partRanks j d .one) y && eqb (partRanks j d .zero) z) o
 holdsFact c s f o (setRanks rs) = onAccepted (λ j. sameList (map (setRank j) (below (c .taps + 1))) rs) o
-holdsFact c s f o (mark m) = onAccepted (λ j. isDegree m (j .mark)) o
-holdsFact c s f o (degree k) = onAccepted (λ j. isDegree k (j .degree)) o
-holdsFact c s f o (side i) = onAccepted (λ j. eqb (j .side) i) o
-holdsFact c s f o (witness us) = onAccepted (λ j. sameList (select (member (ofSide (j .side) (j .witnesses))) graded) us) o
+holdsFact c s f o (mark m) = onAccepted (λ j. sameOption m (j .mark)) o
+holdsFact c s f o (degree k) = onAccepted (λ j. sameOption k (j .degree)) o
+holdsFact c s f o (side i) = onAccepted (λ j. sameOption i (j .side)) o
+holdsFact c s f o (sides x y) = onAccepted (λ j. sameOption x (j .degrees .one) && sameOption y (j .degrees .zero)) o
+holdsFact c s f o (witness i us) = onAccepted (λ j. sameList (select (member (ofSide i (j .witnesses))) graded) us) o
+holdsFact c s f o (kept ps) = onAccepted (λ j. sameList (points (j .kept)) ps) o
 holdsFact c s f o (printed file ls) = sameList (encode (record { n = c .taps; set = c .set; table = c .table })) file && sameList (sheet file) (textOf ls)
 
 -- each fact of a list is so
@@ -118,7 +126,7 @@ unfoldable pub holdAll : List Case → Bool
 holdAll [] = true
 holdAll (c ∷ cs) = holds c && holdAll cs
 
--- cases 1 to 11
+-- cases 1 to 13
 unfoldable pub cases : List Case
 cases =
     -- case 1
@@ -158,14 +166,14 @@ cases =
       taps = 3;
       set = 0 ∷ 1 ∷ 2 ∷ 3 ∷ 4 ∷ 5 ∷ 6 ∷ 7 ∷ [];
       table = 3 ∷ 5 ∷ 6 ∷ 7 ∷ [];
-      facts = ranks 1 4 4 4 ∷ mark 2 ∷ degree 2 ∷ side 1 ∷ [];
+      facts = ranks 1 4 4 4 ∷ mark (some 2) ∷ degree (some 2) ∷ side (some 1) ∷ [];
     }
     -- case 7
     ∷ record {
       taps = 4;
       set = 0 ∷ 3 ∷ 5 ∷ 6 ∷ 9 ∷ 10 ∷ 12 ∷ 15 ∷ [];
       table = 6 ∷ 10 ∷ 12 ∷ 15 ∷ [];
-      facts = ranks 1 4 4 4 ∷ mark 2 ∷ degree 2 ∷ [];
+      facts = ranks 1 4 4 4 ∷ mark (some 2) ∷ degree (some 2) ∷ [];
     }
     -- case 8
     ∷ record {
@@ -173,9 +181,9 @@ cases =
       set = 0 ∷ [];
       table = [];
       facts =
-          degree 0
-          ∷ side 1
-          ∷ witness (0 ∷ [])
+          degree (some 0)
+          ∷ side (some 1)
+          ∷ witness 1 (0 ∷ [])
           ∷ printed
           (1 ∷ 1 ∷ 0 ∷ 0 ∷ [])
           ("n 1 points 1 mark 0" ∷ "0 1 0 1" ∷ "1 1 0 1" ∷ "degree 0 side 1 witness 0" ∷ "sides 0 none" ∷ "additions 0" ∷ [])
@@ -187,16 +195,16 @@ cases =
       set = 0 ∷ [];
       table = 0 ∷ [];
       facts =
-          degree 0
-          ∷ side 0
-          ∷ witness (0 ∷ [])
+          degree (some 0)
+          ∷ side (some 0)
+          ∷ witness 0 (0 ∷ [])
           ∷ printed
           (1 ∷ 1 ∷ 0 ∷ 1 ∷ 0 ∷ [])
           ("n 1 points 1 mark 0" ∷ "0 1 1 0" ∷ "1 1 1 0" ∷ "degree 0 side 0 witness 0" ∷ "sides none 0" ∷ "additions 0" ∷ [])
           ∷ [];
     }
     -- case 10
-    ∷ record { taps = 2; set = 1 ∷ 2 ∷ []; table = 1 ∷ []; facts = setRanks (1 ∷ 2 ∷ 2 ∷ []) ∷ mark 1 ∷ degree 1 ∷ witness (0 ∷ 1 ∷ []) ∷ [] }
+    ∷ record { taps = 2; set = 1 ∷ 2 ∷ []; table = 1 ∷ []; facts = setRanks (1 ∷ 2 ∷ 2 ∷ []) ∷ mark (some 1) ∷ degree (some 1) ∷ side (some 1) ∷ witness 1 (0 ∷ 1 ∷ []) ∷ [] }
     -- case 11: weight 2 in four taps
     ∷ record {
       taps = 4;
@@ -204,7 +212,7 @@ cases =
       table = 3 ∷ 5 ∷ 6 ∷ [];
       facts =
           setRanks (1 ∷ 4 ∷ 6 ∷ 6 ∷ 6 ∷ [])
-          ∷ mark 1
+          ∷ mark (some 1)
           ∷ printed
           (4 ∷ 6 ∷ 3 ∷ 2 ∷ 1 ∷ 3 ∷ 1 ∷ 2 ∷ 3 ∷ 3 ∷ 2 ∷ 1 ∷ [])
           (
@@ -223,6 +231,57 @@ cases =
           ∷ "side 0 point 5 sum 9"
           ∷ "side 0 point 6 sum 9"
           ∷ "additions 73"
+          ∷ []
+          )
+          ∷ [];
+    }
+    -- case 12: no point in one tap
+    ∷ record {
+      taps = 1;
+      set = [];
+      table = [];
+      facts =
+          ranks 0 0 0 0
+          ∷ ranks 1 0 0 0
+          ∷ mark none
+          ∷ degree none
+          ∷ side none
+          ∷ sides none none
+          ∷ witness 1 []
+          ∷ witness 0 []
+          ∷ kept []
+          ∷ printed
+          (1 ∷ 0 ∷ 0 ∷ [])
+          ("n 1 points 0 mark none" ∷ "0 0 0 0" ∷ "1 0 0 0" ∷ "degree none" ∷ "sides none none" ∷ "additions 0" ∷ [])
+          ∷ [];
+    }
+    -- case 13: no point in four taps
+    ∷ record {
+      taps = 4;
+      set = [];
+      table = 3 ∷ 5 ∷ 6 ∷ [];
+      facts =
+          setRanks (0 ∷ 0 ∷ 0 ∷ 0 ∷ 0 ∷ [])
+          ∷ ranks 4 0 0 0
+          ∷ mark none
+          ∷ degree none
+          ∷ side none
+          ∷ sides none none
+          ∷ witness 1 []
+          ∷ witness 0 []
+          ∷ kept []
+          ∷ printed
+          (4 ∷ 0 ∷ 3 ∷ 3 ∷ 2 ∷ 1 ∷ [])
+          (
+          "n 4 points 0 mark none"
+          ∷ "0 0 0 0"
+          ∷ "1 0 0 0"
+          ∷ "2 0 0 0"
+          ∷ "3 0 0 0"
+          ∷ "4 0 0 0"
+          ∷ "degree none"
+          ∷ "sides none none"
+          ∷ "additions 0"
           ∷ []
           )
           ∷ [];

@@ -10,7 +10,7 @@ use mathlib.Core.List.{List, [], _∷_, List·Memᴰ}
 use Prim.Native.Nat.{ℕ, _/_, _^_, _≤_, _<_}
 use lib.ListN.{length, getD}
 use Rattle.cube.specs.Cube.{Taps}
-use Rattle.cube.specs.Mask.{WellFormed, points, HasPoint}
+use Rattle.cube.specs.Mask.{WellFormed, points}
 use Rattle.order.specs.BuiltIn.{graded}
 use Rattle.refusal.specs.Rule.{Rule, _unless_, FirstBroken}
 use Rattle.refusal.specs.Outcome.{refused, accepted}
@@ -30,7 +30,7 @@ use Rattle.certify.specs.Certify.{certifyOutcome, CertifyContract}
 use Rattle.certify.specs.Check.{checkOutcome, outcomeOf, CheckContract, CheckAccepts}
 use Rattle.demands.specs.JudgementWords.{SameRank}
 
--- 1: set, table, or a certificate of 4,096 numbers; 4; 8 for the set, then the table; 6: no point in S; 10: d over n; 11: side over 1
+-- 1: set, table, or a certificate of 4,096 numbers; 4; 8 for the set, then the table; 10: d over n; 11: side over 1
 abbrev pub checkRules : List ℕ → List ℕ → ℕ → ℕ → ℕ → ℕ → List Rule
 checkRules s f n side d l =
     1 unless (length s ≡ 512)
@@ -39,7 +39,6 @@ checkRules s f n side d l =
     ∷ 4 unless Taps n
     ∷ 8 unless WellFormed n s
     ∷ 8 unless WellFormed n f
-    ∷ 6 unless HasPoint s
     ∷ 10 unless (d ≤ n)
     ∷ 11 unless (side ≤ 1)
     ∷ []

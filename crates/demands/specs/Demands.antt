@@ -4,17 +4,18 @@
 --   FewAdditions m r a              a additions are at most those that the formula allows for m points of rank r
 --   Demand1                         a file is read in full or refused by the number of its first fault, and a refusal changes none of the lent buffers
 --   Demand2                         table and coefficients turn into each other, every rank is that of the matrix of points against monomials, and few additions are made
+--   Reported3 n s f j k             what demand 3 says of the reported degree k
 --   Judgement3 n s f j              demand 3 of one n, set and table
 --   Demand3                         demand 3
 use mathlib.Core.Path.{_≡_}
 use mathlib.Core.Logic.{_↔_, _⊎_, _≢_}
 use mathlib.Core.List.{List}
-use mathlib.Core.Option.{some}
+use mathlib.Core.Option.{none, some}
 use Prim.Native.Nat.{ℕ, _+_, _*_, _/_, _≤_, _<_}
 use lib.ListN.{length}
 use Rattle.cube.specs.NumberLists.{lists}
 use Rattle.cube.specs.Cube.{size}
-use Rattle.cube.specs.Mask.{member, points, mask}
+use Rattle.cube.specs.Mask.{member, points, HasPoint, mask}
 use Rattle.order.specs.BuiltIn.{graded}
 use Rattle.refusal.specs.Outcome.{Outcome, refused, accepted}
 use Rattle.polynomial.specs.Polynomial.{Polynomial, value, UpTo, HasDegree}
@@ -61,9 +62,9 @@ pub record Demand1 : Type 0 where
   pub valid-read : (c : Contents) → Valid c → reading (encode c) ≡ accepted c
   -- a file that is read is read in full: it is the file of what it is read as, and that obeys the rules
   pub read-in-full : (file : List ℕ) (c : Contents) → Bytes file → reading file ≡ accepted c → (file ≡ encode c) × Valid c
-  -- a file is refused, by a number from 2 to 7, exactly when it is no such file
+  -- a file is refused, by 2, 3, 4, 5 or 7, exactly when it is no such file
   pub garbage-refused : (file : List ℕ) → Bytes file
-      → ((k : ℕ) × (reading file ≡ refused k) × (2 ≤ k) × (k ≤ 7)) ↔ ((c : Contents) → Valid c → file ≡ encode c → ⊥)
+      → ((k : ℕ) × (reading file ≡ refused k) × (2 ≤ k) × (k ≤ 7) × (k ≢ 6)) ↔ ((c : Contents) → Valid c → file ≡ encode c → ⊥)
   -- the number that refuses a file is that of its first fault
   pub first-number : (file : List ℕ) (k : ℕ) → Bytes file → (reading file ≡ refused k) ↔ FileFault file k
   -- before all of these, buffers that are not both 512 long are refused by 1
@@ -116,6 +117,19 @@ pub record Demand2 : Type 0 where
   pub part-additions : (n : ℕ) (s f : List ℕ) (j : Judgement) → JudgeAccepts graded n s f j → (side d : ℕ) → side ≤ 1 → d ≤ n
       → FewAdditions (length (part side s f)) (ofSide side (partRanks j d)) (eliminated graded n d (part side s f) .additions)
 
+-- what demand 3 says of the reported degree k
+pub record Reported3 (n : ℕ) (s f : List ℕ) (j : Judgement) (k : ℕ) : Type 0 where
+  -- it is one of the degrees 0 to n,
+  pub within : k ≤ n
+  -- the first at which either side's pair differs
+  pub before : (side d : ℕ) → side ≤ 1 → d < k → GivenEqual j side d
+  pub at : (¬ GivenEqual j 1 k) ⊎ (¬ GivenEqual j 0 k)
+  -- each side that differs there has a witness of exactly that degree, zero on its part, one somewhere on S
+  pub witness : (side : ℕ) → side ≤ 1 → ¬ GivenEqual j side k
+      → HasDegree n (member (ofSide side (j .witnesses))) k × Annihilator n (member (ofSide side (j .witnesses))) (part side s f) (points s)
+  -- every polynomial that is zero on either part and one somewhere on S has at least that degree
+  pub least : (side d : ℕ) (p : Polynomial) → side ≤ 1 → Annihilator n p (part side s f) (points s) → HasDegree n p d → k ≤ d
+
 -- demand 3, of one n, set and table, and what Judge answers and leaves
 pub record Judgement3 (n : ℕ) (s f : List ℕ) (j : Judgement) : Type 0 where
   -- the two ranks are equal exactly when no polynomial up to that degree is zero on the part and one somewhere on S
@@ -124,18 +138,13 @@ pub record Judgement3 (n : ℕ) (s f : List ℕ) (j : Judgement) : Type 0 where
   -- where they are equal, Certify's certificate names for each point of S outside the part points of the part whose rows sum to its row, and nothing else
   pub certified : (side d : ℕ) → side ≤ 1 → d ≤ n → GivenEqual j side d
       → (c : List ℕ) × CertifyAccepts graded n s f side d c × Certifies graded n d (points s) (part side s f) c
-  -- a degree is reported
-  pub k : ℕ
-  pub reported : j .degree ≡ some k
-  pub within : k ≤ n
-  -- it is the first at which either side's pair differs
-  pub before : (side d : ℕ) → side ≤ 1 → d < k → GivenEqual j side d
-  pub at : (¬ GivenEqual j 1 k) ⊎ (¬ GivenEqual j 0 k)
-  -- each side that differs there has a witness of exactly that degree, zero on its part, one somewhere on S
-  pub witness : (side : ℕ) → side ≤ 1 → ¬ GivenEqual j side k
-      → HasDegree n (member (ofSide side (j .witnesses))) k × Annihilator n (member (ofSide side (j .witnesses))) (part side s f) (points s)
-  -- every polynomial that is zero on either part and one somewhere on S has at least that degree
-  pub least : (side d : ℕ) (p : Polynomial) → side ≤ 1 → Annihilator n p (part side s f) (points s) → HasDegree n p d → k ≤ d
+  -- a degree is reported exactly when the set has a point
+  pub exists : ((k : ℕ) × (j .degree ≡ some k)) ↔ HasPoint s
+  -- it is the first at which either side's pair differs, with a witness of each side that does, and no annihilator has a lower degree;
+  pub reported : (k : ℕ) → j .degree ≡ some k → Reported3 n s f j k
+  -- where none is reported, neither pair differs at any degree, and no polynomial at all is zero on a part and one somewhere on S
+  pub none-differs : j .degree ≡ none → (side d : ℕ) → side ≤ 1 → d ≤ n → GivenEqual j side d
+  pub none-annihilates : j .degree ≡ none → (side : ℕ) (p : Polynomial) → side ≤ 1 → ¬ Annihilator n p (part side s f) (points s)
 
 -- demand 3
 pub record Demand3 : Type 0 where

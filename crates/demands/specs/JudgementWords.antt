@@ -6,7 +6,8 @@
 --   judgeRules s f n m p q l       those of Judge, lent the set s, the table f, a workspace of m numbers, witness buffers of p and q bytes and such a mask of l bytes
 --   certifyRules s f n ..          those of Certify
 --   RankWords                      the sentences on elimination and on Rank
---   JudgeWords n s f j k           those on what Judge answers and leaves, where the reported degree is k
+--   ReportWords n s f j k          those on what Judge answers and leaves for the reported degree k
+--   JudgeWords n s f j             those on what Judge answers and leaves
 --   CertifyWords n s f side d c    those on what Certify writes for a side at degree d
 --   HandOverWords n side w handed  those on what Hand over hands back of the buffers w for a side
 --   SheetWords                     those on what the sheet is made of
@@ -15,12 +16,12 @@ use mathlib.Core.Path.{_≡_}
 use mathlib.Core.Bool.{true}
 use mathlib.Core.Logic.{_↔_}
 use mathlib.Core.List.{List, [], _∷_, _++_, List·Memᴰ}
-use mathlib.Core.Option.{some}
+use mathlib.Core.Option.{none, some}
 use Prim.Native.Nat.{ℕ, _+_, _^_, _/_, _%_, _≤_, _<_}
 use lib.ListN.{length, getD, take, replicate}
 use Rattle.cube.specs.NumberLists.{below, lists}
 use Rattle.cube.specs.Cube.{Taps, size, within, weight}
-use Rattle.cube.specs.Mask.{WellFormed, member, points, HasPoint, mask}
+use Rattle.cube.specs.Mask.{WellFormed, member, points, mask}
 use Rattle.order.specs.Order.{columns}
 use Rattle.order.specs.BuiltIn.{graded, Precedes}
 use Rattle.refusal.specs.Rule.{Rule, _unless_, FirstBroken}
@@ -69,7 +70,7 @@ rankRules b n d m l =
     ∷ 10 unless (d ≤ n)
     ∷ []
 
--- 1: set, table, workspace, either of two 512-byte witness buffers or the mask of kept points; 4; 8 for the set, then the table; 6: no point in S
+-- 1: set, table, workspace, either of two 512-byte witness buffers or the mask of kept points; 4; 8 for the set, then the table
 abbrev pub judgeRules : List ℕ → List ℕ → ℕ → ℕ → ℕ → ℕ → ℕ → List Rule
 judgeRules s f n m p q l =
     1 unless (length s ≡ 512)
@@ -81,10 +82,9 @@ judgeRules s f n m p q l =
     ∷ 4 unless Taps n
     ∷ 8 unless WellFormed n s
     ∷ 8 unless WellFormed n f
-    ∷ 6 unless HasPoint s
     ∷ []
 
--- 1: set, table, workspace, or a certificate of 4,096 numbers; 4; 8 for set, table; 6; 10; 11: side over 1; 12: at d the part's rank differs from that of S
+-- 1: set, table, workspace, or a certificate of 4,096 numbers; 4; 8 for set, table; 10; 11: side over 1; 12: at d the part's rank differs from that of S
 abbrev pub certifyRules : List ℕ → List ℕ → ℕ → ℕ → ℕ → ℕ → ℕ → List Rule
 certifyRules s f n side d m l =
     1 unless (length s ≡ 512)
@@ -94,7 +94,6 @@ certifyRules s f n side d m l =
     ∷ 4 unless Taps n
     ∷ 8 unless WellFormed n s
     ∷ 8 unless WellFormed n f
-    ∷ 6 unless HasPoint s
     ∷ 10 unless (d ≤ n)
     ∷ 11 unless (side ≤ 1)
     ∷ 12 unless SameRank n d (points s) (part side s f)
@@ -141,29 +140,37 @@ pub record RankWords : Type 0 where
   -- a refusal is by the number of the first rule that does not hold
   pub refuses : (b : List ℕ) (n d m l k : ℕ) → (rankOutcome graded b n d m l ≡ refused k) ↔ FirstBroken (rankRules b n d m l) k
 
--- on what Judge answers and leaves
-pub record JudgeWords (n : ℕ) (s f : List ℕ) (j : Judgement) (k : ℕ) : Type 0 where
-  -- the ranks stand there for each d from 0 to 9,
-  pub ranks-long : length (j .ranks) ≡ 10
-  -- and are all 0 for d past n
-  pub past-n : (d : ℕ) → n < d → (setRank j d ≡ 0) × ((side : ℕ) → side ≤ 1 → ofSide side (partRanks j d) ≡ 0)
+-- on what Judge answers and leaves for the reported degree
+pub record ReportWords (n : ℕ) (s f : List ℕ) (j : Judgement) (k : ℕ) : Type 0 where
   -- the side is 1 if side 1 differs at k,
-  pub side-1 : ¬ GivenEqual j 1 k → j .side ≡ 1
+  pub side-1 : ¬ GivenEqual j 1 k → j .side ≡ some 1
   -- else 0
-  pub side-0 : GivenEqual j 1 k → j .side ≡ 0
-  -- the additions are summed over the 3 × (n + 1) eliminations; finding a witness adds nothing to that count
-  pub additions : j .additions
-      ≡ summed (λ d. eliminated graded n d (points s) .additions + eliminated graded n d (part 1 s f) .additions + eliminated graded n d (part 0 s f) .additions) (below (n + 1))
-  -- each side's buffer is a mask of coefficients: 512 bytes, by the 0/1/0 rule
-  pub buffer-long : (side : ℕ) → side ≤ 1 → length (ofSide side (j .witnesses)) ≡ 512
-  pub buffer-formed : (side : ℕ) → side ≤ 1 → WellFormed n (ofSide side (j .witnesses))
-  -- it holds the side's witness if that side differs at k,
+  pub side-0 : GivenEqual j 1 k → j .side ≡ some 0
+  -- a side's buffer holds the side's witness if that side differs at k,
   pub witness : (side : ℕ) → side ≤ 1 → ¬ GivenEqual j side k → IsWitness graded n k (points s) (part side s f) (member (ofSide side (j .witnesses)))
   -- else zeros
   pub no-witness : (side : ℕ) → side ≤ 1 → GivenEqual j side k → ofSide side (j .witnesses) ≡ zeros 512
   -- the witness is the only polynomial on kept columns that is 0 on the part and 1 at p
   pub only-witness : (side : ℕ) (w : Polynomial) → side ≤ 1 → IsWitness graded n k (points s) (part side s f) w
       → (u : ℕ) → u < size n → w u ≡ member (ofSide side (j .witnesses)) u
+
+-- on what Judge answers and leaves
+pub record JudgeWords (n : ℕ) (s f : List ℕ) (j : Judgement) : Type 0 where
+  -- the ranks stand there for each d from 0 to 9,
+  pub ranks-long : length (j .ranks) ≡ 10
+  -- and are all 0 for d past n
+  pub past-n : (d : ℕ) → n < d → (setRank j d ≡ 0) × ((side : ℕ) → side ≤ 1 → ofSide side (partRanks j d) ≡ 0)
+  -- the additions are summed over the 3 × (n + 1) eliminations; finding a witness adds nothing to that count
+  pub additions : j .additions
+      ≡ summed (λ d. eliminated graded n d (points s) .additions + eliminated graded n d (part 1 s f) .additions + eliminated graded n d (part 0 s f) .additions) (below (n + 1))
+  -- each side's buffer is a mask of coefficients: 512 bytes, by the 0/1/0 rule
+  pub buffer-long : (side : ℕ) → side ≤ 1 → length (ofSide side (j .witnesses)) ≡ 512
+  pub buffer-formed : (side : ℕ) → side ≤ 1 → WellFormed n (ofSide side (j .witnesses))
+  -- side and witnesses are those of the reported degree;
+  pub reported : (k : ℕ) → j .degree ≡ some k → ReportWords n s f j k
+  -- without a degree there is no side, and both buffers are zeros
+  pub no-side : j .degree ≡ none → j .side ≡ none
+  pub no-witnesses : j .degree ≡ none → (side : ℕ) → side ≤ 1 → ofSide side (j .witnesses) ≡ zeros 512
   -- Certify refuses by 12 exactly where at d the part's rank differs from that of S
   pub differs-12 : (side d : ℕ) → side ≤ 1 → d ≤ n → (certifyOutcome graded s f n side d 8192 4096 ≡ refused 12) ↔ (¬ GivenEqual j side d)
 
@@ -202,7 +209,7 @@ pub record JudgementWords : Type 0 where
   -- a refusal of Judge is by the number of the first rule that does not hold
   pub judge-refuses : (n : ℕ) (s f : List ℕ) (m p q l k : ℕ) → (judgeOutcome graded s f n m p q l ≡ refused k) ↔ FirstBroken (judgeRules s f n m p q l) k
   -- where Judge accepts, what it answers and leaves is as its sentences say
-  pub judge : (n : ℕ) (s f : List ℕ) (j : Judgement) (k : ℕ) → JudgeAccepts graded n s f j → j .degree ≡ some k → JudgeWords n s f j k
+  pub judge : (n : ℕ) (s f : List ℕ) (j : Judgement) → JudgeAccepts graded n s f j → JudgeWords n s f j
   -- a refusal of Certify is by the number of the first rule that does not hold
   pub certify-refuses : (n : ℕ) (s f : List ℕ) (side d m l k : ℕ) → (certifyOutcome graded s f n side d m l ≡ refused k)
       ↔ FirstBroken (certifyRules s f n side d m l) k

@@ -6,7 +6,7 @@ use mathlib.Core.Path.{_≡_}
 use mathlib.Core.Logic.{_↔_, _≢_}
 use mathlib.Core.Bool.{true}
 use mathlib.Core.List.{List, List·Memᴰ}
-use Prim.Native.Nat.{ℕ, _<_}
+use Prim.Native.Nat.{ℕ, _≤_, _<_}
 use lib.ListN.{length, getD}
 use Rattle.cube.specs.Mask.{WellFormed, member, points}
 use Rattle.order.specs.BuiltIn.{graded}
@@ -16,6 +16,7 @@ use Rattle.refusal.specs.Verdict.{verdict}
 use Rattle.refusal.specs.Outcome.{refused}
 use Rattle.gf2.specs.Rank.{Rank}
 use Rattle.gf2.specs.Meeting.{KeptPoint}
+use Rattle.packed.specs.Packed.{zeros}
 use Rattle.point_rows.specs.Rows.{row, rows}
 use Rattle.matrix.specs.declared.rank.Ranked.{Ranked}
 use Rattle.matrix.specs.declared.rank.RankAnswer.{RankAnswer}
@@ -76,6 +77,10 @@ pub record KeptMasks : Type 0 where
   pub judge-as-rank : (n : ℕ) (s f ws ws′ : List ℕ) (w w′ : Sides (List ℕ)) (m m′ : List ℕ) (a : JudgeAnswer) (r : Report)
       → JudgeContract (judgeOutcome graded s f n (length ws) (length (w .one)) (length (w .zero)) (length m)) ws ws′ w w′ m m′ a → a .finding ≡ finding.Judged r
       → (x : Ranking) × RankAccepts s n (r .degree) x × (x .kept ≡ m′)
+  -- where it reports no degree the mask is zeros, and these mark the kept points of S at every degree, as Rank's mask does
+  pub judge-none : (n : ℕ) (s f ws ws′ : List ℕ) (w w′ : Sides (List ℕ)) (m m′ : List ℕ) (a : JudgeAnswer)
+      → JudgeContract (judgeOutcome graded s f n (length ws) (length (w .one)) (length (w .zero)) (length m)) ws ws′ w w′ m m′ a → a .finding ≡ finding.NoPoint
+      → (m′ ≡ zeros 512) × ((d : ℕ) → d ≤ n → KeptWords n d (points s) m′ × ((x : Ranking) × RankAccepts s n d x × (x .kept ≡ m′)))
   -- Judge refuses: the mask is as it was
   pub judge-refusal : (n : ℕ) (s f ws ws′ : List ℕ) (w w′ : Sides (List ℕ)) (m m′ : List ℕ) (a : JudgeAnswer) (x : Refusal)
       → JudgeContract (judgeOutcome graded s f n (length ws) (length (w .one)) (length (w .zero)) (length m)) ws ws′ w w′ m m′ a → a .finding ≡ finding.Refused x

@@ -5,15 +5,15 @@
 --   MarkWords n s f j     what is promised of one n, set and table
 --   SetMark               the same of all that Judge accepts; on one set no filter reaches it; what Judge answers and the first line of the sheet have it
 use mathlib.Core.Path.{_≡_}
-use mathlib.Core.Logic.{_↔_, _≢_}
+use mathlib.Core.Logic.{_↔_, _⊎_, _≢_}
 use mathlib.Core.List.{List, _++_}
-use mathlib.Core.Option.{some}
+use mathlib.Core.Option.{none, some}
 use Prim.Native.Nat.{ℕ, _+_, _*_, _/_, _≤_, _<_}
 use lib.Dec.{ltb}
 use lib.ListN.{length}
 use Rattle.cube.specs.NumberLists.{below, lists}
 use Rattle.cube.specs.Cube.{size}
-use Rattle.cube.specs.Mask.{points, mask}
+use Rattle.cube.specs.Mask.{points, HasPoint, mask}
 use Rattle.order.specs.BuiltIn.{graded}
 use Rattle.refusal.specs.Outcome.{Outcome, accepted}
 use Rattle.polynomial.specs.Polynomial.{Polynomial, HasDegree}
@@ -26,9 +26,9 @@ use Rattle.immunity.specs.FirstDegree.{smaller}
 use Rattle.immunity.specs.Judgement.{Judgement, setRank, GivenEqual}
 use Rattle.judge.specs.declared.JudgeAnswer.{JudgeAnswer}
 use Rattle.judge.specs.declared.Report.{Report}
-use Rattle.judge.specs.declared.Finding.the-variants.{Judged}
+use Rattle.judge.specs.declared.Finding.the-variants.{NoPoint, Judged}
 use Rattle.judge.specs.Judge.{judgeOutcome, JudgeContract, JudgeAccepts}
-use Rattle.text.specs.Text.{Text, labelled, newline}
+use Rattle.text.specs.Text.{Text, ascii, labelled, newline}
 use Rattle.sheet_text.specs.Sheet.{sheet}
 
 -- twice the rank of the set that the judgement gives at the degree exceeds the number of points of the set
@@ -47,11 +47,11 @@ pub record MarkWords (n : ℕ) (s f : List ℕ) (j : Judgement) : Type 0 where
   pub first : (m : ℕ) → (j .mark ≡ some m) ↔ FirstExceeds n s j m
   -- at d = n the rank of S is its number of points;
   pub full-rank : setRank j n ≡ length (points s)
-  -- and so there is a mark, since S has a point
-  pub exists : (m : ℕ) × (j .mark ≡ some m)
+  -- and so there is a mark exactly when S has a point
+  pub exists : ((m : ℕ) × (j .mark ≡ some m)) ↔ HasPoint s
   -- where neither side differs, twice the rank of S does not exceed the number of its points;
   pub neither-differs : (d : ℕ) → d ≤ n → GivenEqual j 1 d → GivenEqual j 0 d → ¬ Exceeds s j d
-  -- so the reported degree, which there is by demand 3, is never over the mark,
+  -- so the reported degree, which there is exactly when there is a mark, is never over it,
   pub reported-below : (k m : ℕ) → j .degree ≡ some k → j .mark ≡ some m → k ≤ m
   -- nor is the smaller of the sides' own degrees,
   pub smaller-below : (k m : ℕ) → smaller (j .degrees .one) (j .degrees .zero) ≡ some k → j .mark ≡ some m → k ≤ m
@@ -75,14 +75,20 @@ pub record SetMark : Type 0 where
   -- a filter does not always reach it: on the points 0 to 16 of five taps the mark is 2, and every filter has degree 0 or 1
   pub unreached : let s : List ℕ = mask (λ u. ltb u 17) in ((f : List ℕ) × (j : Judgement) × JudgeAccepts graded 5 s f j)
       × ((f : List ℕ) (j : Judgement) → JudgeAccepts graded 5 s f j → (j .mark ≡ some 2) × ((k : ℕ) → j .degree ≡ some k → k ≤ 1))
-  -- what is answered has it, beside the reported degree,
+  -- what is answered has it, beside the reported degree; or `NoPoint` stands for neither,
   pub answered : (o : Outcome Judgement) (ws ws′ : List ℕ) (w w′ : Sides (List ℕ)) (m m′ : List ℕ) (a : JudgeAnswer) (j : Judgement)
-      → JudgeContract o ws ws′ w w′ m m′ a → o ≡ accepted j → (r : Report) × (a .finding ≡ Judged r) × (some (r .mark) ≡ j .mark) × (some (r .degree) ≡ j .degree)
+      → JudgeContract o ws ws′ w w′ m m′ a → o ≡ accepted j
+      → ((r : Report) × (a .finding ≡ Judged r) × (some (r .mark) ≡ j .mark) × (some (r .degree) ≡ j .degree))
+      ⊎ ((a .finding ≡ NoPoint) × (j .mark ≡ none) × (j .degree ≡ none))
   -- and in every report of Judge the degree is at most the mark, and the mark at most n
   pub report-below : (n : ℕ) (s f ws ws′ : List ℕ) (w w′ : Sides (List ℕ)) (m m′ : List ℕ) (a : JudgeAnswer) (r : Report)
       → JudgeContract (judgeOutcome graded s f n (length ws) (length (w .one)) (length (w .zero)) (length m)) ws ws′ w w′ m m′ a → a .finding ≡ Judged r
       → (r .degree ≤ r .mark) × (r .mark ≤ n)
-  -- the sheet of a file that is read prints it on its first line, behind n and the number of points of S
-  pub printed : (file : List ℕ) (c : Contents) (j : Judgement) → reading file ≡ accepted c
-      → let s : List ℕ = mask (lists (c .set)) in JudgeAccepts graded (c .n) s (mask (lists (c .table))) j
-      → (m : ℕ) × (j .mark ≡ some m) × (rest : Text) × (sheet file ≡ labelled "n" (c .n) ++ labelled " points" (length (points s)) ++ labelled " mark" m ++ newline ++ rest)
+  -- the sheet of a file that is read prints it on its first line, behind n and the number of points of S;
+  pub printed : (file : List ℕ) (c : Contents) (j : Judgement) (m : ℕ) → reading file ≡ accepted c
+      → let s : List ℕ = mask (lists (c .set)) in JudgeAccepts graded (c .n) s (mask (lists (c .table))) j → j .mark ≡ some m
+      → (rest : Text) × (sheet file ≡ labelled "n" (c .n) ++ labelled " points" (length (points s)) ++ labelled " mark" m ++ newline ++ rest)
+  -- without one it prints `mark none` there
+  pub printed-none : (file : List ℕ) (c : Contents) (j : Judgement) → reading file ≡ accepted c
+      → let s : List ℕ = mask (lists (c .set)) in JudgeAccepts graded (c .n) s (mask (lists (c .table))) j → j .mark ≡ none
+      → (rest : Text) × (sheet file ≡ labelled "n" (c .n) ++ labelled " points" (length (points s)) ++ ascii " mark none" ++ newline ++ rest)

@@ -4,17 +4,17 @@
 --   SidesWords n s f j           what is promised of one n, set and table
 --   BothSides                    the same of all that Judge accepts; what Judge answers and the sheet have these degrees
 use mathlib.Core.Path.{_≡_}
-use mathlib.Core.Logic.{_↔_, _≢_}
+use mathlib.Core.Logic.{_↔_, _⊎_, _≢_}
 use mathlib.Core.List.{List, _++_}
 use mathlib.Core.Option.{none, some}
 use Prim.Native.Nat.{ℕ, _≤_, _<_}
 use lib.ListN.{length}
-use Rattle.cube.specs.NumberLists.{lists}
-use Rattle.cube.specs.Mask.{points, mask}
+use Rattle.cube.specs.NumberLists.{select, lists}
+use Rattle.cube.specs.Mask.{member, points, HasPoint, mask}
 use Rattle.order.specs.BuiltIn.{graded}
 use Rattle.refusal.specs.Outcome.{Outcome, accepted}
 use Rattle.polynomial.specs.Polynomial.{Polynomial}
-use Rattle.filter.specs.Sides.{Sides, ofSide}
+use Rattle.filter.specs.Sides.{Sides, pair, ofSide}
 use Rattle.filter.specs.Part.{part}
 use Rattle.filter_file.specs.File.{Contents}
 use Rattle.filter_file.specs.Read.{reading}
@@ -23,8 +23,9 @@ use Rattle.immunity.specs.FirstDegree.{degreesOf, smaller}
 use Rattle.immunity.specs.Judgement.{Judgement, GivenEqual}
 use Rattle.judge.specs.declared.JudgeAnswer.{JudgeAnswer}
 use Rattle.judge.specs.declared.Report.{Report}
-use Rattle.judge.specs.declared.Finding.the-variants.{Judged}
+use Rattle.judge.specs.declared.Finding.the-variants.{NoPoint, Judged}
 use Rattle.judge.specs.Judge.{JudgeContract, JudgeAccepts}
+use Rattle.text.specs.Text.{ascii, newline, field, labelled, fields}
 use Rattle.sheet_lines.specs.Lines.{firstLine, rankLines, degreeLine, sidesLine, additionsLine}
 use Rattle.sheet_text.specs.Sheet.{sums, sheet}
 
@@ -42,30 +43,38 @@ pub record SidesWords (n : ℕ) (s f : List ℕ) (j : Judgement) : Type 0 where
   pub none-equal : (side : ℕ) → side ≤ 1 → (ofSide side (j .degrees) ≡ none) ↔ ((d : ℕ) → d ≤ n → GivenEqual j side d)
   -- the reported degree is the smaller of those that exist,
   pub reported : j .degree ≡ smaller (j .degrees .one) (j .degrees .zero)
-  -- and one exists
-  pub one-exists : (side : ℕ) × (d : ℕ) × (side ≤ 1) × (ofSide side (j .degrees) ≡ some d)
+  -- and one exists exactly when S has a point
+  pub one-exists : ((side : ℕ) × (d : ℕ) × (side ≤ 1) × (ofSide side (j .degrees) ≡ some d)) ↔ HasPoint s
+  -- there is a side exactly then, 1 or 0
+  pub side-exists : ((side : ℕ) × (j .side ≡ some side)) ↔ HasPoint s
+  pub side-is : (side : ℕ) → j .side ≡ some side → side ≤ 1
   -- the side is 1 exactly when side 1 has a degree of its own and it is the reported one
-  pub side-1 : (j .side ≡ 1) ↔ ((d : ℕ) × (j .degrees .one ≡ some d) × (j .degree ≡ some d))
+  pub side-1 : (j .side ≡ some 1) ↔ ((d : ℕ) × (j .degrees .one ≡ some d) × (j .degree ≡ some d))
   -- in the words of polynomials: a side's degree is the lowest degree of a polynomial that is zero on its part and one somewhere on S,
   pub lowest : (side d : ℕ) → side ≤ 1 → (ofSide side (j .degrees) ≡ some d) ↔ LowestDegree n (part side s f) (points s) d
   -- there is none exactly when the part is all of S,
   pub none-whole : (side : ℕ) → side ≤ 1 → (ofSide side (j .degrees) ≡ none) ↔ (part side s f ≡ points s)
   -- and exactly when there is no such polynomial,
   pub none-annihilates : (side : ℕ) → side ≤ 1 → (ofSide side (j .degrees) ≡ none) ↔ ((p : Polynomial) → ¬ Annihilator n p (part side s f) (points s))
-  -- and the other side then has degree 0
-  pub other-zero : (side other : ℕ) → side ≤ 1 → other ≤ 1 → other ≢ side → ofSide side (j .degrees) ≡ none → ofSide other (j .degrees) ≡ some 0
+  -- and the other side then has degree 0, if S has a point
+  pub other-zero : HasPoint s → (side other : ℕ) → side ≤ 1 → other ≤ 1 → other ≢ side → ofSide side (j .degrees) ≡ none → ofSide other (j .degrees) ≡ some 0
 
 -- of every n, set and table that Judge accepts
 pub record BothSides : Type 0 where
   -- each side's degree is as its sentences say
   pub every : (n : ℕ) (s f : List ℕ) (j : Judgement) → JudgeAccepts graded n s f j → SidesWords n s f j
-  -- what is answered has them: `one` is side 1's, `zero` side 0's, beside the reported degree and the side
+  -- what is answered has them: `one` is side 1's, `zero` side 0's, beside the reported degree and the side; or `NoPoint` stands for none of these
   pub answered : (o : Outcome Judgement) (ws ws′ : List ℕ) (w w′ : Sides (List ℕ)) (m m′ : List ℕ) (a : JudgeAnswer) (j : Judgement)
-      → JudgeContract o ws ws′ w w′ m m′ a → o ≡ accepted j → (r : Report) × (a .finding ≡ Judged r)
-      × (degreesOf (r .one) (r .zero) ≡ j .degrees) × (some (r .degree) ≡ j .degree) × (r .side ≡ j .side)
+      → JudgeContract o ws ws′ w w′ m m′ a → o ≡ accepted j
+      → ((r : Report) × (a .finding ≡ Judged r) × (degreesOf (r .one) (r .zero) ≡ j .degrees) × (some (r .degree) ≡ j .degree) × (some (r .side) ≡ j .side))
+      ⊎ ((a .finding ≡ NoPoint) × (j .degrees ≡ pair none none) × (j .degree ≡ none) × (j .side ≡ none))
+  -- the degree line has the degree, the side and that side's witness, and the line after it each side's own degree or `none`
+  pub degree-printed : (k side : ℕ) (ws : Sides (List ℕ)) → degreeLine (some k) (some side) ws
+      ≡ labelled "degree" k ++ labelled " side" side ++ ascii " witness" ++ fields (select (member (ofSide side ws)) graded) ++ newline
+  pub sides-printed : (x y : ℕ) → (sidesLine (pair (some x) (some y)) ≡ ascii "sides" ++ field x ++ field y ++ newline)
+      × (sidesLine (pair (some x) none) ≡ ascii "sides" ++ field x ++ ascii " none" ++ newline) × (sidesLine (pair none (some y)) ≡ ascii "sides" ++ ascii " none" ++ field y ++ newline)
   -- the sheet of a file that is read prints them on the line after the degree line: the whole sheet, line by line
   pub printed : (file : List ℕ) (c : Contents) (j : Judgement) → reading file ≡ accepted c
       → let s : List ℕ = mask (lists (c .set)) in let f : List ℕ = mask (lists (c .table)) in
-      JudgeAccepts graded (c .n) s f j → (k : ℕ) × (j .degree ≡ some k)
-      × (sheet file ≡ firstLine (c .n) (length (points s)) (j .mark) ++ rankLines (c .n) (j .ranks)
-      ++ degreeLine k (j .side) (ofSide (j .side) (j .witnesses)) ++ sidesLine (j .degrees) ++ sums (c .n) s f k ++ additionsLine (j .additions))
+      JudgeAccepts graded (c .n) s f j → sheet file ≡ firstLine (c .n) (length (points s)) (j .mark) ++ rankLines (c .n) (j .ranks)
+      ++ degreeLine (j .degree) (j .side) (j .witnesses) ++ sidesLine (j .degrees) ++ sums (c .n) s f (j .degree) ++ additionsLine (j .additions)

@@ -11,7 +11,7 @@ use Prim.Native.Nat.{ℕ, _≤_, _<_}
 use lib.ListN.{length, take, drop}
 use Rattle.cube.specs.NumberLists.{lists}
 use Rattle.cube.specs.Cube.{Taps}
-use Rattle.cube.specs.Mask.{WellFormed, HasPoint, mask}
+use Rattle.cube.specs.Mask.{WellFormed, mask}
 use Rattle.order.specs.BuiltIn.{graded}
 use Rattle.refusal.specs.Rule.{Rule, _unless_, FirstBroken}
 use Rattle.refusal.specs.Outcome.{Outcome, refused, accepted}
@@ -33,7 +33,7 @@ ReadBack file n s f =
 abbrev pub Writable : ℕ → List ℕ → List ℕ → Type 0
 Writable n s f = (m : ℕ) × (file : List ℕ) × WriteAccepts n s f m file
 
--- 1: set or table; 4; 8 for the set, then the table; 6: no point in S; 13: the output is shorter than the file
+-- 1: set or table; 4; 8 for the set, then the table; 13: the output is shorter than the file
 abbrev pub writeRules : List ℕ → List ℕ → ℕ → ℕ → List Rule
 writeRules s f n m =
     1 unless (length s ≡ 512)
@@ -41,7 +41,6 @@ writeRules s f n m =
     ∷ 4 unless Taps n
     ∷ 8 unless WellFormed n s
     ∷ 8 unless WellFormed n f
-    ∷ 6 unless HasPoint s
     ∷ 13 unless (length (fileOf n s f) ≤ m)
     ∷ []
 

@@ -6,11 +6,10 @@
 --   flat-last              the six numbers behind the ranks of all degrees
 --   behind-ranks           where they stand in a report
 --   number-most            the number of a degree up to 9, or of none, is at most 10
---   number-none            it is 10 exactly where there is none
+--   number-stands          a number over all that there may be stands for none
 use mathlib.Core.Path.{_≡_, refl, sym, ap, ap₂, _∙_}
-use mathlib.Core.Logic.{_↔_}
 use mathlib.Core.List.{List, [], _∷_, _++_, append-assoc}
-use mathlib.Core.Option.{Option, none, some}
+use mathlib.Core.Option.{Option, none, some, Option·getD, Option·none-ne-some, Option·some-ne-none, Option·some-injective}
 use Prim.Native.Nat.{ℕ, suc, _+_, _*_, _≤_, _<_}
 use native.Mathlib.Numerals.{add-one}
 use native.Mathlib.Omega.{arith}
@@ -19,7 +18,8 @@ use lib.Seq.{take-all, take-suc, take-suc-set, getD-append-add}
 use Rattle.filter.specs.Sides.{Sides}
 use Rattle.immunity.specs.declared.Ranks.{Ranks}
 use Rattle.immunity.specs.Ranks.{noRanks}
-use Rattle.exports.specs.Report.{flat, degreeNumber, numbers}
+use Rattle.exports.specs.Report.{flat, degreeNumber, sideNumber, numbers}
+use Rattle.exports.specs.Exported.{StandsFor}
 
 -- no degree is written yet
 pub flat-none : (out : List ℕ) (rs : List Ranks) → take (3 * 0) out ≡ flat (take 0 rs)
@@ -68,19 +68,20 @@ flat-next out rs d l m e =
     ∙ sym (ap (λ k. flat (take k rs)) (add-one d) ∙ ap flat (take-suc rs d noRanks l) ∙ flat-snoc (take d rs) r)
 
 -- the six numbers behind the ranks of all degrees
-pub flat-last : (out : List ℕ) (rs : List Ranks) (k side a : ℕ) (ks : Sides (Option ℕ)) (m : ℕ) {x y : ℕ} → length out ≡ 36 → take 30 out ≡ flat rs
-    → x ≡ degreeNumber (ks .one) → y ≡ degreeNumber (ks .zero) → stored (stored out 30 k side a) 33 x y m ≡ numbers rs (some k) side a ks (some m)
+pub flat-last : (out : List ℕ) (rs : List Ranks) (k side : Option ℕ) (a : ℕ) (ks : Sides (Option ℕ)) (m : Option ℕ) {x y : ℕ} → length out ≡ 36 → take 30 out ≡ flat rs
+    → x ≡ degreeNumber (ks .one) → y ≡ degreeNumber (ks .zero)
+    → stored (stored out 30 (degreeNumber k) (sideNumber side) a) 33 x y (degreeNumber m) ≡ numbers rs k side a ks m
 unfolding numbers
 flat-last out rs k side a ks m {x} {y} l e e₁ e₀ =
-    let three : List ℕ = stored out 30 k side a in
-    let first : List ℕ = k ∷ side ∷ a ∷ [] in
-    let last : List ℕ = x ∷ y ∷ m ∷ [] in
-    let long : length three ≡ 36 = length-stored out 30 k side a ∙ l in
-    sym (take-all 36 (stored three 33 x y m) (omega (arith, length-stored three 33 x y m)))
-    ∙ take-stored three 33 x y m (omega arith)
-    ∙ ap (λ xs. xs ++ last) (take-stored out 30 k side a (omega arith) ∙ ap (λ xs. xs ++ first) e)
+    let three : List ℕ = stored out 30 (degreeNumber k) (sideNumber side) a in
+    let first : List ℕ = degreeNumber k ∷ sideNumber side ∷ a ∷ [] in
+    let last : List ℕ = x ∷ y ∷ degreeNumber m ∷ [] in
+    let long : length three ≡ 36 = length-stored out 30 (degreeNumber k) (sideNumber side) a ∙ l in
+    sym (take-all 36 (stored three 33 x y (degreeNumber m)) (omega (arith, length-stored three 33 x y (degreeNumber m))))
+    ∙ take-stored three 33 x y (degreeNumber m) (omega arith)
+    ∙ ap (λ xs. xs ++ last) (take-stored out 30 (degreeNumber k) (sideNumber side) a (omega arith) ∙ ap (λ xs. xs ++ first) e)
     ∙ append-assoc (flat rs) first last
-    ∙ ap₂ (λ u v. flat rs ++ (k ∷ side ∷ a ∷ u ∷ v ∷ m ∷ [])) e₁ e₀
+    ∙ ap₂ (λ u v. flat rs ++ (degreeNumber k ∷ sideNumber side ∷ a ∷ u ∷ v ∷ degreeNumber m ∷ [])) e₁ e₀
 
 -- the numbers of ranks are three for each
 length-flat : (rs : List Ranks) → length (flat rs) ≡ 3 * length rs
@@ -89,26 +90,22 @@ length-flat [] = refl
 length-flat (r ∷ rs) = omega (arith, length-flat rs)
 
 -- where the numbers behind the ranks stand in a report
-pub behind-ranks : (rs : List Ranks) (k : Option ℕ) (side a : ℕ) (ks : Sides (Option ℕ)) (m : Option ℕ) → length rs ≡ 10 → (i : ℕ)
-    → getD (numbers rs k side a ks m) (30 + i) 0 ≡ getD (degreeNumber k ∷ side ∷ a ∷ degreeNumber (ks .one) ∷ degreeNumber (ks .zero) ∷ degreeNumber m ∷ []) i 0
+pub behind-ranks : (rs : List Ranks) (k side : Option ℕ) (a : ℕ) (ks : Sides (Option ℕ)) (m : Option ℕ) → length rs ≡ 10 → (i : ℕ)
+    → getD (numbers rs k side a ks m) (30 + i) 0 ≡ getD (degreeNumber k ∷ sideNumber side ∷ a ∷ degreeNumber (ks .one) ∷ degreeNumber (ks .zero) ∷ degreeNumber m ∷ []) i 0
 unfolding numbers
 behind-ranks rs k side a ks m l i =
     let long : length (flat rs) ≡ 30 = omega (arith, length-flat rs) in
     sym (ap (λ p. getD (numbers rs k side a ks m) (p + i) 0) long) ∙ getD-append-add (flat rs) _ i 0
 
-module _ (x : Option ℕ) (small : (d : ℕ) → x ≡ some d → d ≤ 9) where
-  -- at most 10
-  pub number-most : degreeNumber x ≤ 10
-  number-most = go x small
-    where
-      go : (y : Option ℕ) → ((d : ℕ) → y ≡ some d → d ≤ 9) → degreeNumber y ≤ 10
-      go none l = omega arith
-      go (some d) l = omega (arith, l d refl)
+-- at most 10
+pub number-most : (x : Option ℕ) → ((d : ℕ) → x ≡ some d → d ≤ 9) → degreeNumber x ≤ 10
+number-most none l = omega arith
+number-most (some d) l = omega (arith, l d refl)
 
-  -- 10 exactly where there is none
-  pub number-none : (degreeNumber x ≡ 10) ↔ (x ≡ none)
-  number-none = (go x small, λ e. ap degreeNumber e)
-    where
-      go : (y : Option ℕ) → ((d : ℕ) → y ≡ some d → d ≤ 9) → degreeNumber y ≡ 10 → y ≡ none
-      go none l e = refl
-      go (some d) l e = absurd (omega (arith, l d refl))
+-- a number over all that there may be stands for none
+pub number-stands : (x : Option ℕ) (m : ℕ) → ((d : ℕ) → x ≡ some d → d < m) → StandsFor x m (Option·getD x m)
+number-stands none m l = ((λ e. refl, λ e. refl), λ k e. absurd (Option·none-ne-some k e))
+number-stands (some d) m l = (
+  (λ e. absurd (omega (arith, l d refl)), λ e. absurd (Option·some-ne-none d e)),
+  λ k e. Option·some-injective _ _ e,
+)

@@ -3,6 +3,7 @@
 --   ReadStatus o ..      the status, both buffers and the number of taps after Read
 --   WriteStatus o ..     the status, the output and the length of the file after Write
 --   RankStatus o ..      the status, the workspace, the mask of kept points, the rank and the additions after Rank
+--   StandsFor x i m      the number m stands for x: it is i exactly where x is none, and else what x is
 --   JudgeStatus o ..     the status, the workspace, the witness buffers, the mask of kept points and the report after Judge
 --   CertifyStatus o ..   the status, the workspace and the certificate after Certify
 --   CheckStatus o ..     the status and the number for yes or no after Check
@@ -12,7 +13,7 @@ use mathlib.Core.Path.{_≡_}
 use mathlib.Core.Logic.{_↔_}
 use mathlib.Core.Bool.{Bool}
 use mathlib.Core.List.{List, _++_}
-use mathlib.Core.Option.{none, some}
+use mathlib.Core.Option.{Option, none, some}
 use Prim.Native.Nat.{ℕ, min}
 use lib.ListN.{length, getD, take, drop}
 use Rattle.cube.specs.NumberLists.{lists}
@@ -49,17 +50,23 @@ pub record RankStatus (o : Outcome Ranking) (ws ws′ m m′ : List ℕ) (k k′
   pub rank : k′ ≡ leftBy o k (λ x. x .rank)
   pub additions : a′ ≡ leftBy o a (λ x. x .additions)
 
--- Judge: workspace, witness buffers, mask of kept points and report at entry and at exit; the degree that it holds is one,
--- side 1's own degree stands at 33, side 0's at 34, each 10 exactly where there is none, and the mark, which there always is, at 35
+-- the number m is i exactly where there is none, and else the one that there is
+abbrev pub StandsFor : Option ℕ → ℕ → ℕ → Type 0
+StandsFor x i m = ((m ≡ i) ↔ (x ≡ none)) × ((k : ℕ) → x ≡ some k → m ≡ k)
+
+-- Judge: workspace, witness buffers, mask of kept points and report at entry and at exit; the reported degree stands at 30, side 1's own
+-- degree at 33, side 0's at 34, the mark at 35, each 10 exactly where there is none; the side stands at 31, 2 exactly where there is none
 pub record JudgeStatus (o : Outcome Judgement) (ws ws′ : List ℕ) (w w′ : Sides (List ℕ)) (m m′ ns ns′ : List ℕ) (r : ℕ) : Type 0 where
   pub status : r ≡ statusOf o
   pub workspace : ws′ ≡ left o ws (zeros (length ws))
   pub witnesses : w′ ≡ leftBy o w (λ j. j .witnesses)
   pub kept : m′ ≡ leftBy o m (λ j. j .kept)
   pub report : ns′ ≡ leftBy o ns reportOf
-  pub reported : (j : Judgement) → o ≡ accepted j → (k : ℕ) × (j .degree ≡ some k)
-  pub none-named : (j : Judgement) → o ≡ accepted j → ((getD ns′ 33 0 ≡ 10) ↔ (j .degrees .one ≡ none)) × ((getD ns′ 34 0 ≡ 10) ↔ (j .degrees .zero ≡ none))
-  pub mark-named : (j : Judgement) → o ≡ accepted j → j .mark ≡ some (getD ns′ 35 0)
+  pub degree-named : (j : Judgement) → o ≡ accepted j → StandsFor (j .degree) 10 (getD ns′ 30 0)
+  pub side-named : (j : Judgement) → o ≡ accepted j → StandsFor (j .side) 2 (getD ns′ 31 0)
+  pub one-named : (j : Judgement) → o ≡ accepted j → StandsFor (j .degrees .one) 10 (getD ns′ 33 0)
+  pub zero-named : (j : Judgement) → o ≡ accepted j → StandsFor (j .degrees .zero) 10 (getD ns′ 34 0)
+  pub mark-named : (j : Judgement) → o ≡ accepted j → StandsFor (j .mark) 10 (getD ns′ 35 0)
 
 -- Certify: workspace and certificate at entry and at exit
 pub record CertifyStatus (o : Outcome (List ℕ)) (ws ws′ c c′ : List ℕ) (r : ℕ) : Type 0 where

@@ -17,6 +17,7 @@ ghost use Rattle.certify.specs.Check.{checkOutcome};
 ghost use Rattle.exports.specs.Status.{statusOf};
 ghost use Rattle.exports.specs.Exported.{ReadStatus, WriteStatus, RankStatus, JudgeStatus, CertifyStatus, CheckStatus, inFront, HandOverStatus};
 use crate::report::REPORT;
+use crate::report::no_point_report;
 use crate::report::report_of;
 use buffer::append;
 use certify::CertifyAnswer;
@@ -114,7 +115,8 @@ pub extern "C" fn ekthavrul_rank(
 }
 
 // Judge: the mask of the kept points of the set at the reported degree goes to `kept`; the ranks at each degree, the
-// reported degree, the side, the count of additions, each side's own degree and the mark go to `report`.
+// reported degree, the side, the count of additions, each side's own degree and the mark go to `report`, with numbers
+// that the header names for what a set without a point does not have.
 #[no_mangle]
 pub extern "C" fn ekthavrul_judge(
     set: &[u8],
@@ -133,6 +135,11 @@ pub extern "C" fn ekthavrul_judge(
     let finding = answer.finding;
     match finding {
         Finding::Refused(x) => refusal::number(x),
+        Finding::NoPoint => {
+            let ranks = answer.ranks;
+            *report = no_point_report(ranks);
+            0
+        }
         Finding::Judged(found) => {
             let ranks = answer.ranks;
             *report = report_of(ranks, found);

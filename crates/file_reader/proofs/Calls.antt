@@ -96,50 +96,48 @@ module _ {M : Type 1} (𝓤 : URA M) (H : Heap 𝓤) (A : Atoms 𝓤) (W : Given
     taps-said : (p : Progress) → ent 𝓤 (ensured 𝓤 H A draw-taps.ended (draw-taps.clauses 𝓤 H A mem run) (κ, tt) (h, tt) tt p) (fact 𝓤 (TapsDrawn h p))
     taps-said p = exE 𝓤 _ (λ ws. snd∗ 𝓤 (sem 𝓤 H A (lasts draw-taps.ended (κ, tt) (h, tt) ws)) (fact 𝓤 (TapsDrawn h p)))
 
-    module _ (κ′ : Lft) (q′ : Share) (least : ℕ) (y : RefT (List ℕ)) where
+    module _ (κ′ : Lft) (q′ : Share) (y : RefT (List ℕ)) where
       module _ (n : ℕ) where
         abbrev to-points : DrawPoints 𝓤 H A mem run .Ghost
-        to-points = (((κ, (κ′, tt)), (q, (q′, tt)), tt, (h, (n, (least, (y, tt)))), (w ∷ [], (vint w64 n ∷ [], (vint w64 least ∷ [], (bufferVal y ∷ [], tt))))), tt)
+        to-points = (((κ, (κ′, tt)), (q, (q′, tt)), tt, (h, (n, (y, tt))), (w ∷ [], (vint w64 n ∷ [], (bufferVal y ∷ [], tt)))), tt)
 
-        goes-points : n < 2 ^ 64 → least < 2 ^ 64 → (length (now y) ≡ 512) × (taps n ≡ true)
+        goes-points : n < 2 ^ 64 → (length (now y) ≡ 512) × (taps n ≡ true)
             → ent 𝓤 (⋆ 𝓤 H A (Tokens 𝓤 κ q κ′ q′ ∷ ‵ (Held κ h w) ∷ ‵ (Buffer κ′ y) ∷ [])) (DrawPoints 𝓤 H A mem run .pre to-points)
-        goes-points n-fits least-fits asks =
+        goes-points n-fits asks =
             qed W (Tokens 𝓤 κ q κ′ q′ ∷ ‵ (Held κ h w) ∷ ‵ (Buffer κ′ y) ∷ []) ∵ says ! asks $ frame ! $
-            nothing ! $ move ! (2 ∷ 0 ∷ []) $ fjoin ! $ owned ! usize (Is usize) (uint-makes 𝓤 H A W w64) least _ (refl, least-fits) $ fjoin ! $
-            owned ! usize (Is usize) (uint-makes 𝓤 H A W w64) n _ (refl, n-fits) $ fjoin ! $ move ! (1 ∷ 0 ∷ []) $ fjoin ! $ done !
+            nothing ! $ move ! (2 ∷ 0 ∷ []) $ fjoin ! $ owned ! usize (Is usize) (uint-makes 𝓤 H A W w64) n _ (refl, n-fits) $ fjoin ! $ move ! (1 ∷ 0 ∷ []) $ fjoin ! $ done !
 
       module _ (p : Progress) (u : Val) where
         abbrev to-list : DrawList 𝓤 H A mem run .Ghost
-        to-list = (((κ, (κ′, tt)), (q, (q′, tt)), tt, (h, (p, (least, (y, tt)))), (w ∷ [], (u ∷ [], (vint w64 least ∷ [], (bufferVal y ∷ [], tt))))), tt)
+        to-list = (((κ, (κ′, tt)), (q, (q′, tt)), tt, (h, (p, (y, tt))), (w ∷ [], (u ∷ [], (bufferVal y ∷ [], tt)))), tt)
 
-        goes-list : Is S.the-row p (u ∷ []) → least < 2 ^ 64 → (length (now y) ≡ 512) × Tapped (p .reading)
+        goes-list : Is S.the-row p (u ∷ []) → (length (now y) ≡ 512) × Tapped (p .reading)
             → ent 𝓤 (⋆ 𝓤 H A (Tokens 𝓤 κ q κ′ q′ ∷ ‵ (Held κ h w) ∷ ‵ (Buffer κ′ y) ∷ [])) (DrawList 𝓤 H A mem run .pre to-list)
-        goes-list is fits asks =
+        goes-list is asks =
             qed W (Tokens 𝓤 κ q κ′ q′ ∷ ‵ (Held κ h w) ∷ ‵ (Buffer κ′ y) ∷ []) ∵ says ! asks $ frame ! $
-            nothing ! $ move ! (2 ∷ 0 ∷ []) $ fjoin ! $ owned ! usize (Is usize) (uint-makes 𝓤 H A W w64) least _ (refl, fits) $ fjoin ! $
-            owned ! S.the-row (Is S.the-row) (LL.makes S.the-type S′.the-plain 𝓤 H A) p _ is $ fjoin ! $ move ! (1 ∷ 0 ∷ []) $ fjoin ! $ done !
+            nothing ! $ move ! (2 ∷ 0 ∷ []) $ fjoin ! $ owned ! S.the-row (Is S.the-row) (LL.makes S.the-type S′.the-plain 𝓤 H A) p _ is $ fjoin ! $ move ! (1 ∷ 0 ∷ []) $ fjoin ! $ done !
 
   module _ {Γ : List (Item 𝓤)} {C : Calls 𝓤 H} {Λ : Loops 𝓤 H} {En : Env 𝓤 H} {d : Place} {xs : List Operand} {post : Post 𝓤 H} (fm : FmC 𝓤 H (W .laws) C) where
     -- a list after n, as the last statement of an arm
-    pub calls-points-last : Triple 𝓤 (C #draw-points) (DrawPoints 𝓤 H A mem run) → (h : Reader) (w : Val) (κ′ : Lft) (q′ : Share) (n least : ℕ) (y : RefT (List ℕ))
-        → n < 2 ^ 64 → least < 2 ^ 64 → (length (now y) ≡ 512) × (taps n ≡ true)
-        → Opds Go W (raw (DrawPoints 𝓤 H A mem run .pre (to-points h w κ′ q′ least y n)) ∷ Γ) En xs (w ∷ vint w64 n ∷ vint w64 least ∷ bufferVal y ∷ [])
-        → ((u : Val) (r : Progress) (ys : List ℕ) → Is S.the-row r (u ∷ []) → ListDrawn h (accepted n) least y r ys → length ys ≡ length (now y)
+    pub calls-points-last : Triple 𝓤 (C #draw-points) (DrawPoints 𝓤 H A mem run) → (h : Reader) (w : Val) (κ′ : Lft) (q′ : Share) (n : ℕ) (y : RefT (List ℕ))
+        → n < 2 ^ 64 → (length (now y) ≡ 512) × (taps n ≡ true)
+        → Opds Go W (raw (DrawPoints 𝓤 H A mem run .pre (to-points h w κ′ q′ y n)) ∷ Γ) En xs (w ∷ vint w64 n ∷ bufferVal y ∷ [])
+        → ((u : Val) (r : Progress) (ys : List ℕ) → Is S.the-row r (u ∷ []) → ListDrawn h (accepted n) y r ys → length ys ≡ length (now y)
         → Sq W (Tokens 𝓤 κ q κ′ q′ ∷ ‵ (finally u8 (y .name) ys) ∷ Γ) (settles En d u post))
         → Sq W (Tokens 𝓤 κ q κ′ q′ ∷ ‵ (Held κ h w) ∷ ‵ (Buffer κ′ y) ∷ Γ) (runs C Λ En (call #draw-points xs d) post)
-    calls-points-last known h w κ′ q′ n least y n-fits least-fits asks os k =
-        let to = to-points h w κ′ q′ least y n in
-        use3 W (raw (DrawPoints 𝓤 H A mem run .pre to)) (goes-points h w κ′ q′ least y n n-fits least-fits asks) $ calls-at-last ! fm (DrawPoints 𝓤 H A mem run) known to os (λ u.
+    calls-points-last known h w κ′ q′ n y n-fits asks os k =
+        let to = to-points h w κ′ q′ y n in
+        use3 W (raw (DrawPoints 𝓤 H A mem run .pre to)) (goes-points h w κ′ q′ y n n-fits asks) $ calls-at-last ! fm (DrawPoints 𝓤 H A mem run) known to os (λ u.
         use1 W (later (some (λ (r : Progress). (Tokens 𝓤 κ q κ′ q′ ⊛ ‵ (S.the-row .own r (u ∷ [])))
-        ⊛ raw (ensured 𝓤 H A draw-points.ended (draw-points.clauses 𝓤 H A mem run) (κ, (κ′, tt)) (h, (n, (least, (y, tt)))) tt r)))) (id⊢ 𝓤 _) $
+        ⊛ raw (ensured 𝓤 H A draw-points.ended (draw-points.clauses 𝓤 H A mem run) (κ, (κ′, tt)) (h, (n, (y, tt))) tt r)))) (id⊢ 𝓤 _) $
         await ! tt $ pick ! (λ r. split ! $ move ! (1 ∷ []) $
-        use1 W (some (λ (ws : Unit {0} × (Unit {0} × (Unit {0} × (List ℕ × Unit {0})))).
-        ‵ (lasts draw-points.ended (κ, (κ′, tt)) (h, (n, (least, (y, tt)))) ws) ⊛ raw (fact 𝓤 (ListDrawn h (accepted n) least y r (ws .1 .1 .1 .0))))) (id⊢ 𝓤 _) $
-        pick ! (λ ws. split ! $ move ! (1 ∷ []) $ heard ! (ListDrawn h (accepted n) least y r (ws .1 .1 .1 .0)) (λ e.
-        fsplit ! $ discard ! $ fsplit ! $ discard ! $ fsplit ! $ discard ! $ fsplit ! $ fsplit ! $ move ! (1 ∷ []) $ feqL ! (λ l.
+        use1 W (some (λ (ws : Unit {0} × (Unit {0} × (List ℕ × Unit {0}))).
+        ‵ (lasts draw-points.ended (κ, (κ′, tt)) (h, (n, (y, tt))) ws) ⊛ raw (fact 𝓤 (ListDrawn h (accepted n) y r (ws .1 .1 .0))))) (id⊢ 𝓤 _) $
+        pick ! (λ ws. split ! $ move ! (1 ∷ []) $ heard ! (ListDrawn h (accepted n) y r (ws .1 .1 .0)) (λ e.
+        fsplit ! $ discard ! $ fsplit ! $ discard ! $ fsplit ! $ fsplit ! $ move ! (1 ∷ []) $ feqL ! (λ l.
         -- [the buffer's last bytes; true; the tokens and the result]
         move ! (1 ∷ []) $ discard ! $ move ! (1 ∷ []) $ split ! $ move ! (1 ∷ []) $
-        facts ! S.the-row (Is S.the-row) (shows 𝓤 H A S.the-row) r (u ∷ []) (λ is. k u r (ws .1 .1 .1 .0) is e l))))))
+        facts ! S.the-row (Is S.the-row) (shows 𝓤 H A S.the-row) r (u ∷ []) (λ is. k u r (ws .1 .1 .0) is e l))))))
 
     module _ {rest : Body} where
       -- a reader at the file's first byte
@@ -163,22 +161,22 @@ module _ {M : Type 1} (𝓤 : URA M) (H : Heap 𝓤) (A : Atoms 𝓤) (W : Given
           heard ! (TapsDrawn h p) (λ e. split ! $ move ! (1 ∷ []) $ facts ! S.the-row (Is S.the-row) (shows 𝓤 H A S.the-row) p (u ∷ []) (λ is. k u p is e))))
 
       -- a list after what the file says so far
-      pub calls-list : Triple 𝓤 (C #draw-list) (DrawList 𝓤 H A mem run) → (h : Reader) (w : Val) (p : Progress) (u : Val) (κ′ : Lft) (q′ : Share) (least : ℕ) (y : RefT (List ℕ))
-          → Is S.the-row p (u ∷ []) → least < 2 ^ 64 → (length (now y) ≡ 512) × Tapped (p .reading)
-          → Opds Go W (raw (DrawList 𝓤 H A mem run .pre (to-list h w κ′ q′ least y p u)) ∷ Γ) En xs (w ∷ u ∷ vint w64 least ∷ bufferVal y ∷ [])
-          → ((u₁ : Val) (r : Progress) (ys : List ℕ) → Is S.the-row r (u₁ ∷ []) → ListDrawn h (readingOf (p .reading)) least y r ys → length ys ≡ length (now y)
+      pub calls-list : Triple 𝓤 (C #draw-list) (DrawList 𝓤 H A mem run) → (h : Reader) (w : Val) (p : Progress) (u : Val) (κ′ : Lft) (q′ : Share) (y : RefT (List ℕ))
+          → Is S.the-row p (u ∷ []) → (length (now y) ≡ 512) × Tapped (p .reading)
+          → Opds Go W (raw (DrawList 𝓤 H A mem run .pre (to-list h w κ′ q′ y p u)) ∷ Γ) En xs (w ∷ u ∷ bufferVal y ∷ [])
+          → ((u₁ : Val) (r : Progress) (ys : List ℕ) → Is S.the-row r (u₁ ∷ []) → ListDrawn h (readingOf (p .reading)) y r ys → length ys ≡ length (now y)
           → Sq W (Tokens 𝓤 κ q κ′ q′ ∷ ‵ (finally u8 (y .name) ys) ∷ Γ) (lands C Λ En d u₁ rest post))
           → Sq W (Tokens 𝓤 κ q κ′ q′ ∷ ‵ (Held κ h w) ∷ ‵ (Buffer κ′ y) ∷ Γ) (runs C Λ En (seq (call #draw-list xs d) rest) post)
-      calls-list known h w p u κ′ q′ least y is fits asks os k =
-          let to = to-list h w κ′ q′ least y p u in
-          use3 W (raw (DrawList 𝓤 H A mem run .pre to)) (goes-list h w κ′ q′ least y p u is fits asks) $ calls-at ! fm (DrawList 𝓤 H A mem run) known to os (λ u₁.
+      calls-list known h w p u κ′ q′ y is asks os k =
+          let to = to-list h w κ′ q′ y p u in
+          use3 W (raw (DrawList 𝓤 H A mem run .pre to)) (goes-list h w κ′ q′ y p u is asks) $ calls-at ! fm (DrawList 𝓤 H A mem run) known to os (λ u₁.
           use1 W (later (some (λ (r : Progress). (Tokens 𝓤 κ q κ′ q′ ⊛ ‵ (S.the-row .own r (u₁ ∷ [])))
-          ⊛ raw (ensured 𝓤 H A draw-list.ended (draw-list.clauses 𝓤 H A mem run) (κ, (κ′, tt)) (h, (p, (least, (y, tt)))) tt r)))) (id⊢ 𝓤 _) $
+          ⊛ raw (ensured 𝓤 H A draw-list.ended (draw-list.clauses 𝓤 H A mem run) (κ, (κ′, tt)) (h, (p, (y, tt))) tt r)))) (id⊢ 𝓤 _) $
           await ! tt $ pick ! (λ r. split ! $ move ! (1 ∷ []) $
-          use1 W (some (λ (ws : Unit {0} × (Unit {0} × (Unit {0} × (List ℕ × Unit {0})))).
-          ‵ (lasts draw-list.ended (κ, (κ′, tt)) (h, (p, (least, (y, tt)))) ws) ⊛ raw (fact 𝓤 (ListDrawn h (readingOf (p .reading)) least y r (ws .1 .1 .1 .0))))) (id⊢ 𝓤 _) $
-          pick ! (λ ws. split ! $ move ! (1 ∷ []) $ heard ! (ListDrawn h (readingOf (p .reading)) least y r (ws .1 .1 .1 .0)) (λ e.
-          fsplit ! $ discard ! $ fsplit ! $ discard ! $ fsplit ! $ discard ! $ fsplit ! $ fsplit ! $ move ! (1 ∷ []) $ feqL ! (λ l.
+          use1 W (some (λ (ws : Unit {0} × (Unit {0} × (List ℕ × Unit {0}))).
+          ‵ (lasts draw-list.ended (κ, (κ′, tt)) (h, (p, (y, tt))) ws) ⊛ raw (fact 𝓤 (ListDrawn h (readingOf (p .reading)) y r (ws .1 .1 .0))))) (id⊢ 𝓤 _) $
+          pick ! (λ ws. split ! $ move ! (1 ∷ []) $ heard ! (ListDrawn h (readingOf (p .reading)) y r (ws .1 .1 .0)) (λ e.
+          fsplit ! $ discard ! $ fsplit ! $ discard ! $ fsplit ! $ fsplit ! $ move ! (1 ∷ []) $ feqL ! (λ l.
           -- [the buffer's last bytes; true; the tokens and the result]
           move ! (1 ∷ []) $ discard ! $ move ! (1 ∷ []) $ split ! $ move ! (1 ∷ []) $
-          facts ! S.the-row (Is S.the-row) (shows 𝓤 H A S.the-row) r (u₁ ∷ []) (λ is₁. k u₁ r (ws .1 .1 .1 .0) is₁ e l))))))
+          facts ! S.the-row (Is S.the-row) (shows 𝓤 H A S.the-row) r (u₁ ∷ []) (λ is₁. k u₁ r (ws .1 .1 .0) is₁ e l))))))

@@ -1,6 +1,6 @@
 -- What the functions that decide say of a number drawn, and what a walk of a file knows from it.
 --   TapsSaid r p              what `taps_of` says of its result p, for the number r
---   CountSaid n least r l     what `count_of` says of its result l
+--   CountSaid n r l           what `count_of` says of its result l
 --   PointSaid l b r l₁ b₁     what `point_of` says of its result l₁, where it turns the bytes b into b₁
 --   refused-remaining         of a list that is refused, the refusal is left
 --   refused-bounded           and it is bounded
@@ -32,8 +32,8 @@ abbrev pub TapsSaid : Varint → Progress → Type 0
 TapsSaid r p = (s : List ℕ) → outcomeOf s p ≡ tapsBy (drawnOf s r)
 
 -- what `count_of` says
-abbrev pub CountSaid : ℕ → ℕ → Varint → OpenList → Type 0
-CountSaid n least r l = ((b s : List ℕ) → remaining l b s ≡ afterCount n least b (drawnOf s r)) × Bounded l
+abbrev pub CountSaid : ℕ → Varint → OpenList → Type 0
+CountSaid n r l = ((b s : List ℕ) → remaining l b s ≡ afterCount n b (drawnOf s r)) × Bounded l
 
 -- what `point_of` says
 abbrev pub PointSaid : OpenList → List ℕ → Varint → OpenList → List ℕ → Type 0
@@ -54,10 +54,10 @@ unfolding tapsOf
 taps-drawn s rest r p drew said = said s ∙ ap tapsBy drew
 
 -- what a list says in all is what is left of it once its count is drawn
-pub count-drawn : (n least at : ℕ) (b s : List ℕ) (r : Varint) (l : OpenList) → drawnOf s r ≡ varint (drop at s) → CountSaid n least r l
-    → listAfter (accepted n) least b (drop at s) ≡ remaining l b s
+pub count-drawn : (n at : ℕ) (b s : List ℕ) (r : Varint) (l : OpenList) → drawnOf s r ≡ varint (drop at s) → CountSaid n r l
+    → listAfter (accepted n) b (drop at s) ≡ remaining l b s
 unfolding listAfter pointList
-count-drawn n least at b s r l drew said = ap (afterCount n least b) (sym drew) ∙ sym (said .0 b s)
+count-drawn n at b s r l drew said = ap (afterCount n b) (sym drew) ∙ sym (said .0 b s)
 
 -- what the first of `left` points is, and what is left after it
 turn : (m left prev least : ℕ) (s : List ℕ) → 0 < left → pointsFrom m left prev least s ≡ pointBy m prev least (varint s) (λ p rest. pointsFrom m (left - 1) p 1 rest)
@@ -79,6 +79,6 @@ unfolding pointsFrom withOnes
 list-drawn l b s none = rw none
 
 -- after a refusal a list says the same
-pub refused-drawn : (k least : ℕ) (b s s₁ : List ℕ) → beside b (leave (refused k) s) ≡ listAfter (refused k) least b s₁
+pub refused-drawn : (k : ℕ) (b s s₁ : List ℕ) → beside b (leave (refused k) s) ≡ listAfter (refused k) b s₁
 unfolding listAfter
-refused-drawn k least b s s₁ = refl
+refused-drawn k b s s₁ = refl

@@ -9,7 +9,7 @@
 --   sliced d                     the machine value of a reader's slice
 --   NumberDrawn d r              what `draw` says of its result r
 --   TapsDrawn d p                what `draw_taps` says of its result p
---   ListDrawn d o least y p ys   what `draw_list` and `draw_points` say of their result p and of the buffer's last bytes ys
+--   ListDrawn d o y p ys         what `draw_list` and `draw_points` say of their result p and of the buffer's last bytes ys
 --   typed-local                  the machine value of a reader has the type of a local, in which lifetimes are erased
 --   own-twice                    what a reader owns is had twice
 --   own-slice                    what a reader owns gives what its slice owns, and is kept
@@ -96,8 +96,8 @@ abbrev pub TapsDrawn : Reader → Progress → Type 0
 TapsDrawn d p = outcomeOf (now (d .src)) p ≡ tapsOf (drop (d .at) (now (d .src)))
 
 -- what a draw of a list after the outcome o says of its result and of the buffer's last bytes
-abbrev pub ListDrawn : Reader → Outcome ℕ → ℕ → RefT (List ℕ) → Progress → List ℕ → Type 0
-ListDrawn d o least y p ys = beside ys (outcomeOf (now (d .src)) p) ≡ listAfter o least (now y) (drop (d .at) (now (d .src)))
+abbrev pub ListDrawn : Reader → Outcome ℕ → RefT (List ℕ) → Progress → List ℕ → Type 0
+ListDrawn d o y p ys = beside ys (outcomeOf (now (d .src)) p) ≡ listAfter o (now y) (drop (d .at) (now (d .src)))
 
 -- the machine value of a reader has the type of a local, in which lifetimes are erased
 pub typed-local : {M : Type 1} (𝓤 : URA M) (H : Heap 𝓤) (A : Atoms 𝓤) → Given 𝓤 H A → (α : NamedLft) (d : Reader) (w : Val)

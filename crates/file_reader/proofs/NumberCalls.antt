@@ -87,18 +87,17 @@ module _ {M : Type 1} (𝓤 : URA M) (H : Heap 𝓤) (A : Atoms 𝓤) (W : Given
   taps-said : (p : Progress) → ent 𝓤 (ensured 𝓤 H A taps-of.ended (taps-of.clauses 𝓤 H A mem run) tt (r, tt) tt p) (fact 𝓤 (TapsSaid r p))
   taps-said p = exE 𝓤 _ (λ ws. snd∗ 𝓤 (sem 𝓤 H A (lasts taps-of.ended tt (r, tt) ws)) (fact 𝓤 (TapsSaid r p)))
 
-  module _ (n least : ℕ) where
+  module _ (n : ℕ) where
     abbrev to-count : CountOf 𝓤 H A mem run .Ghost
-    to-count = ((tt, tt, tt, (n, (least, (r, tt))), (vint w64 n ∷ [], (vint w64 least ∷ [], (v ∷ [], tt)))), tt)
+    to-count = ((tt, tt, tt, (n, (r, tt)), (vint w64 n ∷ [], (v ∷ [], tt))), tt)
 
-    goes-count : Is E.the-row r (v ∷ []) → n < 2 ^ 64 → least < 2 ^ 64 → taps n ≡ true → ent 𝓤 (⋆ 𝓤 H A []) (CountOf 𝓤 H A mem run .pre to-count)
-    goes-count is n-fits least-fits tapped =
+    goes-count : Is E.the-row r (v ∷ []) → n < 2 ^ 64 → taps n ≡ true → ent 𝓤 (⋆ 𝓤 H A []) (CountOf 𝓤 H A mem run .pre to-count)
+    goes-count is n-fits tapped =
         qed W [] ∵ says ! tapped $ nothing ! $ frame ! $ nothing ! $ owned ! E.the-row (Is E.the-row) (EL.makes E.the-type E′.the-plain 𝓤 H A) r _ is $ fjoin ! $
-        owned ! usize (Is usize) (uint-makes 𝓤 H A W w64) least _ (refl, least-fits) $ fjoin ! $
         owned ! usize (Is usize) (uint-makes 𝓤 H A W w64) n _ (refl, n-fits) $ fjoin ! $ done !
 
-    count-said : (l : OpenList) → ent 𝓤 (ensured 𝓤 H A count-of.ended (count-of.clauses 𝓤 H A mem run) tt (n, (least, (r, tt))) tt l) (fact 𝓤 (CountSaid n least r l))
-    count-said l = exE 𝓤 _ (λ ws. snd∗ 𝓤 (sem 𝓤 H A (lasts count-of.ended tt (n, (least, (r, tt))) ws)) (fact 𝓤 (CountSaid n least r l)))
+    count-said : (l : OpenList) → ent 𝓤 (ensured 𝓤 H A count-of.ended (count-of.clauses 𝓤 H A mem run) tt (n, (r, tt)) tt l) (fact 𝓤 (CountSaid n r l))
+    count-said l = exE 𝓤 _ (λ ws. snd∗ 𝓤 (sem 𝓤 H A (lasts count-of.ended tt (n, (r, tt)) ws)) (fact 𝓤 (CountSaid n r l)))
 
   module _ {Γ : List (Item 𝓤)} {C : Calls 𝓤 H} {Λ : Loops 𝓤 H} {En : Env 𝓤 H} {d : Place} {xs : List Operand} {post : Post 𝓤 H} {rest : Body} (fm : FmC 𝓤 H (W .laws) C)
       (is : Is E.the-row r (v ∷ [])) where
@@ -113,16 +112,16 @@ module _ {M : Type 1} (𝓤 : URA M) (H : Heap 𝓤) (A : Atoms 𝓤) (W : Given
         heard ! (TapsSaid r p) (λ e. split ! $ discard ! $ k u p e)))
 
     -- a list, of the count drawn
-    pub calls-count : Triple 𝓤 (C #count-of) (CountOf 𝓤 H A mem run) → (n least : ℕ) → n < 2 ^ 64 → least < 2 ^ 64 → taps n ≡ true
-        → Opds Go W (raw (CountOf 𝓤 H A mem run .pre (to-count n least)) ∷ Γ) En xs (vint w64 n ∷ vint w64 least ∷ v ∷ [])
-        → ((l : OpenList) → Is L.the-row l (openVal l ∷ []) → CountSaid n least r l → Sq W Γ (lands C Λ En d (openVal l) rest post))
+    pub calls-count : Triple 𝓤 (C #count-of) (CountOf 𝓤 H A mem run) → (n : ℕ) → n < 2 ^ 64 → taps n ≡ true
+        → Opds Go W (raw (CountOf 𝓤 H A mem run .pre (to-count n)) ∷ Γ) En xs (vint w64 n ∷ v ∷ [])
+        → ((l : OpenList) → Is L.the-row l (openVal l ∷ []) → CountSaid n r l → Sq W Γ (lands C Λ En d (openVal l) rest post))
         → Sq W Γ (runs C Λ En (seq (call #count-of xs d) rest) post)
-    calls-count known n least n-fits least-fits tapped os k =
-        use0 W (raw (CountOf 𝓤 H A mem run .pre (to-count n least))) (goes-count n least is n-fits least-fits tapped) $
-        calls-at ! fm (CountOf 𝓤 H A mem run) known (to-count n least) os (λ z.
-        use1 W (later (some (λ (l : OpenList). (‵ ftrue ⊛ ‵ (L.the-row .own l (z ∷ []))) ⊛ raw (ensured 𝓤 H A count-of.ended (count-of.clauses 𝓤 H A mem run) tt (n, (least, (r, tt))) tt l)))) (id⊢ 𝓤 _) $
-        await ! tt $ pick ! (λ l. split ! $ move ! (1 ∷ []) $ use1 W (raw (fact 𝓤 (CountSaid n least r l))) (count-said n least l) $
-        heard ! (CountSaid n least r l) (λ e. split ! $ discard ! $ facts ! L.the-row (Is L.the-row) (shows 𝓤 H A L.the-row) l (z ∷ []) (λ l-is.
+    calls-count known n n-fits tapped os k =
+        use0 W (raw (CountOf 𝓤 H A mem run .pre (to-count n))) (goes-count n is n-fits tapped) $
+        calls-at ! fm (CountOf 𝓤 H A mem run) known (to-count n) os (λ z.
+        use1 W (later (some (λ (l : OpenList). (‵ ftrue ⊛ ‵ (L.the-row .own l (z ∷ []))) ⊛ raw (ensured 𝓤 H A count-of.ended (count-of.clauses 𝓤 H A mem run) tt (n, (r, tt)) tt l)))) (id⊢ 𝓤 _) $
+        await ! tt $ pick ! (λ l. split ! $ move ! (1 ∷ []) $ use1 W (raw (fact 𝓤 (CountSaid n r l))) (count-said n l) $
+        heard ! (CountSaid n r l) (λ e. split ! $ discard ! $ facts ! L.the-row (Is L.the-row) (shows 𝓤 H A L.the-row) l (z ∷ []) (λ l-is.
         let same : z ≡ openVal l = ap only (LL.tells L.the-type L′.the-laws l _ l-is) in
         subst (λ (y : Val). Is L.the-row l (y ∷ []) → Sq W Γ (lands C Λ En d y rest post)) (sym same) (λ l-is′. k l l-is′ e) l-is))))
 

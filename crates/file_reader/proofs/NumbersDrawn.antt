@@ -32,12 +32,12 @@ draw-draw (refused k) f g = refl
 draw-draw (accepted (v leaving rest)) f g = refl
 
 -- a list after the code's progress is a list after n, from the bytes that remain
-after-progress : (s : List ℕ) (p : Progress) (least : ℕ) (b : List ℕ)
-    → listAfter (readingOf (p .reading)) least b (drop (p .next) s) ≡ draw (outcomeOf s p) (λ n rest. listAfter (accepted n) least b rest)
+after-progress : (s : List ℕ) (p : Progress) (b : List ℕ)
+    → listAfter (readingOf (p .reading)) b (drop (p .next) s) ≡ draw (outcomeOf s p) (λ n rest. listAfter (accepted n) b rest)
 unfolding listAfter
-after-progress s p least b = go (p .reading)
+after-progress s p b = go (p .reading)
   where
-    go : (r : Reading) → listAfter (readingOf r) least b (drop (p .next) s) ≡ draw (leave (readingOf r) (drop (p .next) s)) (λ n rest. listAfter (accepted n) least b rest)
+    go : (r : Reading) → listAfter (readingOf r) b (drop (p .next) s) ≡ draw (leave (readingOf r) (drop (p .next) s)) (λ n rest. listAfter (accepted n) b rest)
     go (Accepted n) = refl
     go (Refused k) = refl
 
@@ -52,38 +52,38 @@ beside-beside b c (refused k) = refl
 beside-beside b c (accepted (v leaving rest)) = refl
 
 -- a list after n, and what follows it
-list-then : {A : Type 0} (n least : ℕ) (b rest : List ℕ) (f : ℕ × List ℕ → List ℕ → Outcome A)
-    → draw (listAfter (accepted n) least b rest) f ≡ draw (markDrawn b (pointList least (size n) rest)) (λ marked rest. f (n, marked) rest)
+list-then : {A : Type 0} (n : ℕ) (b rest : List ℕ) (f : ℕ × List ℕ → List ℕ → Outcome A)
+    → draw (listAfter (accepted n) b rest) f ≡ draw (markDrawn b (pointList (size n) rest)) (λ marked rest. f (n, marked) rest)
 unfolding listAfter
-list-then n least b rest f = draw-draw (markDrawn b (pointList least (size n) rest)) _ f
+list-then n b rest f = draw-draw (markDrawn b (pointList (size n) rest)) _ f
 
 -- what follows a list that is drawn where the code's progress p ends, and leaves the code's progress p₁
-list-follows : {A : Type 0} (s b b₁ : List ℕ) (least : ℕ) (p p₁ : Progress) (f : ℕ × List ℕ → List ℕ → Outcome A)
-    → beside b₁ (outcomeOf s p₁) ≡ listAfter (readingOf (p .reading)) least b (drop (p .next) s)
-    → draw (beside b₁ (outcomeOf s p₁)) f ≡ draw (outcomeOf s p) (λ n rest. draw (markDrawn b (pointList least (size n) rest)) (λ marked rest. f (n, marked) rest))
-list-follows s b b₁ least p p₁ f e =
-    ap (λ (o : Outcome (Drawn (ℕ × List ℕ))). draw o f) (e ∙ after-progress s p least b)
-    ∙ (draw-draw (outcomeOf s p) _ f ∙ draw-cong (outcomeOf s p) (λ n rest. list-then n least b rest f))
+list-follows : {A : Type 0} (s b b₁ : List ℕ) (p p₁ : Progress) (f : ℕ × List ℕ → List ℕ → Outcome A)
+    → beside b₁ (outcomeOf s p₁) ≡ listAfter (readingOf (p .reading)) b (drop (p .next) s)
+    → draw (beside b₁ (outcomeOf s p₁)) f ≡ draw (outcomeOf s p) (λ n rest. draw (markDrawn b (pointList (size n) rest)) (λ marked rest. f (n, marked) rest))
+list-follows s b b₁ p p₁ f e =
+    ap (λ (o : Outcome (Drawn (ℕ × List ℕ))). draw o f) (e ∙ after-progress s p b)
+    ∙ (draw-draw (outcomeOf s p) _ f ∙ draw-cong (outcomeOf s p) (λ n rest. list-then n b rest f))
 
 -- n and the two lists, each drawn where the one before it ends, are the numbers of the file
 pub numbers-drawn : (s b c b₁ c₁ : List ℕ) (p₁ p₂ p₃ : Progress)
     → outcomeOf s p₁ ≡ tapsOf s
-    → beside b₁ (outcomeOf s p₂) ≡ listAfter (readingOf (p₁ .reading)) 1 b (drop (p₁ .next) s)
-    → beside c₁ (outcomeOf s p₃) ≡ listAfter (readingOf (p₂ .reading)) 0 c (drop (p₂ .next) s)
+    → beside b₁ (outcomeOf s p₂) ≡ listAfter (readingOf (p₁ .reading)) b (drop (p₁ .next) s)
+    → beside c₁ (outcomeOf s p₃) ≡ listAfter (readingOf (p₂ .reading)) c (drop (p₂ .next) s)
     → beside c₁ (beside b₁ (outcomeOf s p₃)) ≡ numbers b c s
 unfolding numbers
 numbers-drawn s b c b₁ c₁ p₁ p₂ p₃ e₁ e₂ e₃ = beside-beside b₁ c₁ (outcomeOf s p₃) ∙ (table-drawn ∙ set-drawn)
   where
     -- the list of f and what both lists leave, where v is n and the bytes marked at the points of S
     second : ℕ × List ℕ → List ℕ → Outcome (Drawn ((ℕ × List ℕ) × List ℕ))
-    second v rest = draw (markDrawn c (pointList 0 (size (v .0)) rest)) (λ table rest. accepted ((v, table) leaving rest))
+    second v rest = draw (markDrawn c (pointList (size (v .0)) rest)) (λ table rest. accepted ((v, table) leaving rest))
 
     table-drawn : draw (beside c₁ (outcomeOf s p₃)) (λ v rest. accepted (((v .0, b₁), v .1) leaving rest)) ≡ draw (beside b₁ (outcomeOf s p₂)) second
-    table-drawn = list-follows s c c₁ 0 p₂ p₃ (λ v rest. accepted (((v .0, b₁), v .1) leaving rest)) e₃ ∙ sym (draw-beside b₁ (outcomeOf s p₂) second)
+    table-drawn = list-follows s c c₁ p₂ p₃ (λ v rest. accepted (((v .0, b₁), v .1) leaving rest)) e₃ ∙ sym (draw-beside b₁ (outcomeOf s p₂) second)
 
-    set-drawn : draw (beside b₁ (outcomeOf s p₂)) second ≡ draw (tapsOf s) (λ n rest. draw (markDrawn b (pointList 1 (size n) rest)) (λ set rest. second (n, set) rest))
+    set-drawn : draw (beside b₁ (outcomeOf s p₂)) second ≡ draw (tapsOf s) (λ n rest. draw (markDrawn b (pointList (size n) rest)) (λ set rest. second (n, set) rest))
     set-drawn =
-        list-follows s b b₁ 1 p₁ p₂ second e₂ ∙ ap (λ (o : Outcome (Drawn ℕ)). draw o (λ n rest. draw (markDrawn b (pointList 1 (size n) rest)) (λ set rest. second (n, set) rest))) e₁
+        list-follows s b b₁ p₁ p₂ second e₂ ∙ ap (λ (o : Outcome (Drawn ℕ)). draw o (λ n rest. draw (markDrawn b (pointList (size n) rest)) (λ set rest. second (n, set) rest))) e₁
 
 -- n, where it is drawn, is a number of taps
 pub taps-tapped : (s rest : List ℕ) (p : Progress) → outcomeOf s p ≡ tapsOf rest → Tapped (p .reading)
@@ -99,15 +99,15 @@ taps-tapped s rest p e = go (p .reading) e
         subst (λ (m : ℕ). taps m ≡ true) n-is tapped
 
 -- where a list is drawn after a number of taps, n is still one
-pub list-tapped : (s b b₁ rest : List ℕ) (least : ℕ) (r : Reading) (p : Progress)
-    → beside b₁ (outcomeOf s p) ≡ listAfter (readingOf r) least b rest → Tapped r → Tapped (p .reading)
+pub list-tapped : (s b b₁ rest : List ℕ) (r : Reading) (p : Progress)
+    → beside b₁ (outcomeOf s p) ≡ listAfter (readingOf r) b rest → Tapped r → Tapped (p .reading)
 unfolding listAfter
-list-tapped s b b₁ rest least r p e t = go r (p .reading) e t
+list-tapped s b b₁ rest r p e t = go r (p .reading) e t
   where
-    go : (r q : Reading) → beside b₁ (leave (readingOf q) (drop (p .next) s)) ≡ listAfter (readingOf r) least b rest → Tapped r → Tapped q
+    go : (r q : Reading) → beside b₁ (leave (readingOf q) (drop (p .next) s)) ≡ listAfter (readingOf r) b rest → Tapped r → Tapped q
     go r (Refused k) e t = tt
     go (Refused k) (Accepted n) e t = absurd (not-both (sym e))
     go (Accepted m) (Accepted n) e t =
-        let (marked, left, _, h) = draw-accepted (markDrawn b (pointList least (size m) rest)) _ (sym e) in
+        let (marked, left, _, h) = draw-accepted (markDrawn b (pointList (size m) rest)) _ (sym e) in
         let values : _≡_ {A = ℕ × List ℕ} (m, marked) (n, b₁) = cc in
         subst (λ (k : ℕ). taps k ≡ true) (ap (λ (v : ℕ × List ℕ). v .0) values) t

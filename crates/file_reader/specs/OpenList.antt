@@ -2,7 +2,7 @@
 -- makes of it.
 --   saying o q               what the outcome o says, n or a refusal, once q has drawn bytes: n beside them, or the refusal
 --   remaining l b s          what is left of the list l: its points, drawn from the bytes s of a file and marked in the bytes b
---   afterCount n least b o   the list after n whose count is what the outcome o draws, marked in the bytes b
+--   afterCount n b o         the list after n whose count is what the outcome o draws, marked in the bytes b
 --   afterPoint l b o         what is left of the list l, where its next number is what the outcome o draws
 --   refusedList r            a list that is refused: no point of it is left
 --   Bounded l                the last point of the list l is at most N, and N at most 512
@@ -27,8 +27,8 @@ remaining l b s =
     saying (readingOf (l .progress .reading)) (markDrawn b (pointsFrom (l .size) (l .left) (l .prev) (l .least) (drop (l .progress .next) s)))
 
 -- the list after n, by its count
-abbrev pub afterCount : ℕ → ℕ → List ℕ → Outcome (Drawn ℕ) → Outcome (Drawn (ℕ × List ℕ))
-afterCount n least b o = saying (accepted n) (markDrawn b (listBy least (size n) o))
+abbrev pub afterCount : ℕ → List ℕ → Outcome (Drawn ℕ) → Outcome (Drawn (ℕ × List ℕ))
+afterCount n b o = saying (accepted n) (markDrawn b (listBy (size n) o))
 
 -- the points that are left, by the first of them
 abbrev pub afterPoint : OpenList → List ℕ → Outcome (Drawn ℕ) → Outcome (Drawn (ℕ × List ℕ))

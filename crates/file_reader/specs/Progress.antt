@@ -5,7 +5,7 @@
 --   beside b o              each value that the outcome o draws, beside the bytes b
 --   tapsBy o                n, where it is what the outcome o draws
 --   tapsOf s                n, the number that the bytes s begin with: refused by 2, 3 or 4
---   listAfter o least b s   after the outcome o, which gives n: n, and the bytes b marked at a list of at least `least` points below N
+--   listAfter o b s         after the outcome o, which gives n: n, and the bytes b marked at a list of points below N
 --   numbers b c s           n and the two lists of the file s: n, and the bytes b and c marked at the points of S and at those where f is 1
 --   Tapped r                where the code's reading r is n, n is a number of taps
 --   refusedBy r             the code's progress where the file is refused
@@ -54,16 +54,16 @@ unfoldable pub tapsOf : List ℕ → Outcome (Drawn ℕ)
 tapsOf s = tapsBy (varint s)
 
 -- a list of points below N, where n is read
-unfoldable pub listAfter : Outcome ℕ → ℕ → List ℕ → List ℕ → Outcome (Drawn (ℕ × List ℕ))
-listAfter (refused k) least b s = refused k
-listAfter (accepted n) least b s = draw (markDrawn b (pointList least (size n) s)) (λ marked rest. accepted ((n, marked) leaving rest))
+unfoldable pub listAfter : Outcome ℕ → List ℕ → List ℕ → Outcome (Drawn (ℕ × List ℕ))
+listAfter (refused k) b s = refused k
+listAfter (accepted n) b s = draw (markDrawn b (pointList (size n) s)) (λ marked rest. accepted ((n, marked) leaving rest))
 
 -- number by number, each completely before the next
 unfoldable pub numbers : List ℕ → List ℕ → List ℕ → Outcome (Drawn ((ℕ × List ℕ) × List ℕ))
 numbers b c s =
     draw (tapsOf s) (λ n s₁.
-    draw (markDrawn b (pointList 1 (size n) s₁)) (λ set s₂.
-    draw (markDrawn c (pointList 0 (size n) s₂)) (λ table s₃. accepted (((n, set), table) leaving s₃))))
+    draw (markDrawn b (pointList (size n) s₁)) (λ set s₂.
+    draw (markDrawn c (pointList (size n) s₂)) (λ table s₃. accepted (((n, set), table) leaving s₃))))
 
 -- n, where it is read, is a number of taps
 abbrev pub Tapped : Reading → Type 0

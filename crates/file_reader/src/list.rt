@@ -23,10 +23,10 @@ pub struct OpenList {
     pub least: usize,
 }
 
-// A list of at least `least` points, whose count is the number drawn, after n.
-pub fn count_of(n: usize, least: usize, drawn: Varint) -> OpenList
+// A list of points, whose count is the number drawn, after n.
+pub fn count_of(n: usize, drawn: Varint) -> OpenList
     requires { ⌜ taps n ≡ true ⌝ }
-    ensures { λ r. ⌜ ((b s : List ℕ) → remaining r b s ≡ afterCount n least b (outcomeOf s drawn)) × Bounded r ⌝ }
+    ensures { λ r. ⌜ ((b s : List ℕ) → remaining r b s ≡ afterCount n b (outcomeOf s drawn)) × Bounded r ⌝ }
 {
     match drawn {
         Varint::Refused(r) => refused_list(r),
@@ -34,9 +34,6 @@ pub fn count_of(n: usize, least: usize, drawn: Varint) -> OpenList
             let size = cube::size(n);
             if value > size {
                 return refused_list(Refusal::Range);
-            }
-            if value < least {
-                return refused_list(Refusal::EmptySet);
             }
             OpenList {
                 progress: Progress {

@@ -45,26 +45,26 @@ impl<'a> Reader<'a> {
         taps_of(self.draw())
     }
 
-    // Draws a list of at least `least` points, and sets each in `out`, if nothing before it is refused.
-    pub fn draw_list(self, before: Progress, least: usize, out: &mut [u8]) -> Progress
+    // Draws a list of points, and sets each in `out`, if nothing before it is refused.
+    pub fn draw_list(self, before: Progress, out: &mut [u8]) -> Progress
         requires { ⌜ (length (now out) ≡ 512) × Tapped (before .reading) ⌝ }
         ensures { λ r. ⌜ beside (now (out .exit)) (outcomeOf (now (self .entry .src)) r)
-            ≡ listAfter (readingOf (before .reading)) least (now (out .entry)) (drop (self .entry .at) (now (self .entry .src))) ⌝ }
+            ≡ listAfter (readingOf (before .reading)) (now (out .entry)) (drop (self .entry .at) (now (self .entry .src))) ⌝ }
     {
         let reading = before.reading;
         match reading {
             Reading::Refused(_) => before,
-            Reading::Accepted(n) => self.draw_points(n, least, out),
+            Reading::Accepted(n) => self.draw_points(n, out),
         }
     }
 
-    // Draws a list of at least `least` points after n: its count, then point by point.
-    fn draw_points(self, n: usize, least: usize, out: &mut [u8]) -> Progress
+    // Draws a list of points after n: its count, then point by point.
+    fn draw_points(self, n: usize, out: &mut [u8]) -> Progress
         requires { ⌜ (length (now out) ≡ 512) × (taps n ≡ true) ⌝ }
         ensures { λ r. ⌜ beside (now (out .exit)) (outcomeOf (now (self .entry .src)) r)
-            ≡ listAfter (accepted n) least (now (out .entry)) (drop (self .entry .at) (now (self .entry .src))) ⌝ }
+            ≡ listAfter (accepted n) (now (out .entry)) (drop (self .entry .at) (now (self .entry .src))) ⌝ }
     {
-        let mut list = count_of(n, least, self.draw());
+        let mut list = count_of(n, self.draw());
         let mut reader = self.past(list.progress);
         while list.left > 0 {
             list = point_of(list, reader.draw(), out);
@@ -93,7 +93,7 @@ pub fn draw_all(file: &[u8], set: &mut [u8], table: &mut [u8]) -> Progress
     let reader = Reader::new(file);
     let taps = reader.draw_taps();
     let reader = reader.past(taps);
-    let points = reader.draw_list(taps, 1, set);
+    let points = reader.draw_list(taps, set);
     let reader = reader.past(points);
-    reader.draw_list(points, 0, table)
+    reader.draw_list(points, table)
 }

@@ -1,20 +1,19 @@
 -- What the shared checks show.
 --   a-filter     lengths, taps and masks that pass show a filter
---   some-point   and that the set has a point
---   passes       a filter whose set has a point passes what follows the taps
+--   passes       a filter passes what follows the taps
 --   few-taps     a filter has at most nine taps
 --   set-below    the points of its set are below 512
-use mathlib.Core.Path.{_≡_, ap}
-use mathlib.Core.Bool.{true, false, not}
+use mathlib.Core.Path.{_≡_}
+use mathlib.Core.Bool.{true}
 use mathlib.Core.List.{List}
 use Prim.Native.Nat.{ℕ, _≤_}
 use native.Mathlib.Omega.{arith}
 use lib.Dec.{eqb}
 use lib.ListN.{length}
 use lib.Pow.{pow-mono}
-use borrow.Author.Tests.{eqb-true, not-true}
+use borrow.Author.Tests.{eqb-true}
 use Rattle.refusal.proofs.Verdicts.{All}
-use Rattle.cube.specs.NumberLists.{isEmpty, Inside}
+use Rattle.cube.specs.NumberLists.{Inside}
 use Rattle.cube.specs.Cube.{taps}
 use Rattle.cube.specs.Mask.{points}
 use Rattle.cube.proofs.Masks.{points-inside}
@@ -33,13 +32,9 @@ module _ (n : ℕ) (s f : List ℕ) where
     table-formed = table;
   }
 
-  -- and that the set has a point
-  pub some-point : All (filterMasks n s f) → isEmpty (points s) ≡ false
-  some-point (_, (_, (some, _))) = not-true _ some
-
-  -- a filter whose set has a point passes what follows the taps
-  pub passes : Filter n s f → isEmpty (points s) ≡ false → All (filterMasks n s f)
-  passes h some = (h .set-formed, (h .table-formed, (ap not some, tt)))
+  -- a filter passes what follows the taps
+  pub passes : Filter n s f → All (filterMasks n s f)
+  passes h = (h .set-formed, (h .table-formed, tt))
 
   -- a filter has at most nine taps
   pub few-taps : Filter n s f → n ≤ 9

@@ -2,21 +2,18 @@
 --   lengthIs k m        1: a lent buffer of k elements should have m
 --   tapsOf n            4: n is from 1 to 9
 --   maskOf n b          8: the mask b obeys the 0/1/0 rule of n taps
---   someOf s            6: the set s has a point
 --   degreeUpTo d n      10: the degree d is at most n
 --   sideUpTo1 side      11: the side is at most 1
 --   filterLengths s f   1: of a set and of a table
---   filterMasks n s f   what follows the taps: 8 of the set, 8 of the table, 6
-use mathlib.Core.Bool.{not}
+--   filterMasks n s f   what follows the taps: 8 of the set, 8 of the table
 use mathlib.Core.List.{List, [], _∷_, _++_}
 use Prim.Native.Nat.{ℕ}
 use lib.Dec.{eqb, leb}
 use lib.ListN.{length}
 use Rattle.refusal.specs.Outcome.{Check, _otherwise_}
-use Rattle.refusal.specs.declared.Refusal.the-variants.{Length, Taps, Bytes, EmptySet, Degree, Side}
-use Rattle.cube.specs.NumberLists.{isEmpty}
+use Rattle.refusal.specs.declared.Refusal.the-variants.{Length, Taps, Bytes, Degree, Side}
 use Rattle.cube.specs.Cube.{taps}
-use Rattle.cube.specs.Mask.{wellFormed, points}
+use Rattle.cube.specs.Mask.{wellFormed}
 
 -- a length
 abbrev pub lengthIs : ℕ → ℕ → List Check
@@ -29,10 +26,6 @@ tapsOf n = taps n otherwise Taps ∷ []
 -- the bytes of a mask
 abbrev pub maskOf : ℕ → List ℕ → List Check
 maskOf n b = wellFormed n b otherwise Bytes ∷ []
-
--- a point in the set
-abbrev pub someOf : List ℕ → List Check
-someOf s = not (isEmpty (points s)) otherwise EmptySet ∷ []
 
 -- a degree
 abbrev pub degreeUpTo : ℕ → ℕ → List Check
@@ -48,4 +41,4 @@ filterLengths s f = lengthIs (length s) 512 ++ lengthIs (length f) 512
 
 -- what is checked of a set and a table after the taps
 abbrev pub filterMasks : ℕ → List ℕ → List ℕ → List Check
-filterMasks n s f = maskOf n s ++ maskOf n f ++ someOf s
+filterMasks n s f = maskOf n s ++ maskOf n f

@@ -2,9 +2,8 @@
 // calls, one after the other.
 ghost use mathlib.Core.Path.{_≡_};
 ghost use Rattle.refusal.specs.Verdict.{from};
-ghost use Rattle.filter.specs.Checks.{lengthIs, tapsOf, maskOf, someOf, degreeUpTo, sideUpTo1, filterLengths, filterMasks};
+ghost use Rattle.filter.specs.Checks.{lengthIs, tapsOf, maskOf, degreeUpTo, sideUpTo1, filterLengths, filterMasks};
 use cube::POINTS;
-use cube::mask::is_empty;
 use cube::mask::well_formed;
 use cube::valid_taps;
 use refusal::Refusal;
@@ -32,13 +31,6 @@ pub fn check_mask(v: Verdict, mask: &[u8], n: usize) -> Verdict
     also(v, well_formed(mask, n), Refusal::Bytes)
 }
 
-// 6: the set has a point.
-pub fn check_some(v: Verdict, set: &[u8]) -> Verdict
-    ensures { λ r. ⌜ r ≡ from v (someOf (now (set .entry))) ⌝ }
-{
-    also(v, !is_empty(set), Refusal::EmptySet)
-}
-
 // 10: the degree is at most `n`.
 pub fn check_degree(v: Verdict, d: usize, n: usize) -> Verdict
     ensures { λ r. ⌜ r ≡ from v (degreeUpTo d n) ⌝ }
@@ -61,11 +53,10 @@ pub fn check_filter_lengths(v: Verdict, set: &[u8], table: &[u8]) -> Verdict
     check_length(v, table.len(), POINTS)
 }
 
-// What follows the taps: the set's bytes, the table's bytes, a point in the set.
+// What follows the taps: the set's bytes, the table's bytes.
 pub fn check_filter_masks(v: Verdict, set: &[u8], table: &[u8], n: usize) -> Verdict
     ensures { λ r. ⌜ r ≡ from v (filterMasks n (now (set .entry)) (now (table .entry))) ⌝ }
 {
     let v = check_mask(v, set, n);
-    let v = check_mask(v, table, n);
-    check_some(v, set)
+    check_mask(v, table, n)
 }

@@ -1,20 +1,17 @@
 -- What obeys the rules of a filter file is a filter, and back.
 --   size-small     N is at most 512
 --   valid-filter   the masks of its lists are a filter
---   valid-some     and the set has a point
 --   valid-again    and what their file says is it again
---   filter-valid   what the file of a filter whose set has a point says obeys the rules
-use mathlib.Core.Path.{_≡_, ap, _∙_}
-use mathlib.Core.Bool.{false}
+--   filter-valid   what the file of a filter says obeys the rules
+use mathlib.Core.Path.{_≡_}
 use mathlib.Core.List.{List}
 use Prim.Native.Nat.{ℕ, _≤_}
 use native.Mathlib.Omega.{arith}
 use lib.Pow.{pow-mono}
-use Rattle.cube.specs.NumberLists.{isEmpty, lists}
+use Rattle.cube.specs.NumberLists.{lists}
 use Rattle.cube.specs.Cube.{size}
-use Rattle.cube.specs.Mask.{points, mask}
+use Rattle.cube.specs.Mask.{mask}
 use Rattle.cube.proofs.Taps.{taps-range}
-use Rattle.cube.proofs.Listed.{some-length}
 use Rattle.cube.proofs.MaskOf.{length-mask}
 use Rattle.filter.specs.Filter.{Filter}
 use Rattle.point_list.proofs.ListMasks.{points-listed, listed-formed, points-rise}
@@ -35,19 +32,14 @@ valid-filter {c} v = record {
   table-formed = listed-formed (c .n) (c .table) (v .table);
 }
 
--- the set has a point
-pub valid-some : {c : Contents} → Valid c → isEmpty (points (mask (lists (c .set)))) ≡ false
-valid-some {c} v = ap isEmpty (points-listed (size (c .n)) (c .set) (size-small v) (v .set)) ∙ some-length (c .set) .1 (v .some)
-
 -- what their file says is it again
 pub valid-again : {c : Contents} → Valid c → contentsOf (c .n) (mask (lists (c .set))) (mask (lists (c .table))) ≡ c
 valid-again {c} v = rw (points-listed (size (c .n)) (c .set) (size-small v) (v .set), points-listed (size (c .n)) (c .table) (size-small v) (v .table))
 
--- what the file of a filter whose set has a point says obeys the rules
-pub filter-valid : {n : ℕ} {s f : List ℕ} → Filter n s f → isEmpty (points s) ≡ false → Valid (contentsOf n s f)
-filter-valid {n} {s} {f} h some = record {
+-- what the file of a filter says obeys the rules
+pub filter-valid : {n : ℕ} {s f : List ℕ} → Filter n s f → Valid (contentsOf n s f)
+filter-valid {n} {s} {f} h = record {
   tapped = h .tapped;
-  some = some-length (points s) .0 some;
   set = points-rise n s (h .set-formed);
   table = points-rise n f (h .table-formed);
 }

@@ -1,12 +1,11 @@
 -- What Write answers and leaves, from the tests that it makes.
 --   write-refused   a refusal answers its number alone, and leaves the output as at entry
---   write-passed    checks of the inputs that pass show a filter whose set has a point
+--   write-passed    checks of the inputs that pass show a filter
 --   room-decides    where they pass, only the length of the output is left to check
 --   inputs-refuse   a broken check of the inputs
 --   write-short     they pass, and the output is shorter than the file
 --   write-written   they pass, the output is not shorter, and the file is written to its front
 use mathlib.Core.Path.{_≡_, refl, ap, _∙_}
-use mathlib.Core.Bool.{false}
 use mathlib.Core.List.{List, _++_}
 use Prim.Native.Nat.{ℕ, _≤_, _<_}
 use native.Mathlib.Nat.{zero-add}
@@ -20,10 +19,8 @@ use Rattle.refusal.specs.declared.verdict.Verdict.the-variants as verdicts
 use Rattle.refusal.specs.Verdict.{verdict}
 use Rattle.refusal.proofs.Verdicts.{checked-append, passed-all, verdict-refuses, verdict-passes}
 use Rattle.buffer.specs.Appends.{Appends}
-use Rattle.cube.specs.NumberLists.{isEmpty}
-use Rattle.cube.specs.Mask.{points}
 use Rattle.filter.specs.Filter.{Filter}
-use Rattle.filter.proofs.Filters.{a-filter, some-point}
+use Rattle.filter.proofs.Filters.{a-filter}
 use Rattle.filter_file.specs.declared.write.WriteAnswer.the-variants.{Accepted, Refused}
 use Rattle.filter_file.specs.Write.{fileOf, writeInputs, roomFor, writeOutcome, WriteContract}
 
@@ -32,11 +29,9 @@ pub write-refused : {o : Outcome (List ℕ)} (x : Refusal) (out : List ℕ) → 
 write-refused x out e = rw e (record { answer = refl; output = refl })
 
 module _ (n : ℕ) (s f : List ℕ) where
-  -- checks of the inputs that pass show a filter whose set has a point
-  pub write-passed : verdict (writeInputs s f n) ≡ verdicts.Passed → Filter n s f × (isEmpty (points s) ≡ false)
-  write-passed passed =
-      let (set, (table, (tapped, masks))) = passed-all (writeInputs s f n) passed in
-      (a-filter n s f set table tapped masks, some-point n s f masks)
+  -- checks of the inputs that pass show a filter
+  pub write-passed : verdict (writeInputs s f n) ≡ verdicts.Passed → Filter n s f
+  write-passed passed = let (set, (table, (tapped, masks))) = passed-all (writeInputs s f n) passed in a-filter n s f set table tapped masks
 
   -- where they pass, only the length of the output is left to check
   pub room-decides : (m : ℕ) → verdict (writeInputs s f n) ≡ verdicts.Passed

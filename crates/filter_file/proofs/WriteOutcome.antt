@@ -1,12 +1,11 @@
 -- What an acceptance of Write shows, when it accepts, and when it refuses.
---   inputs-pass      the checks of a filter whose set has a point pass
---   write-accepted   what Write accepts is a filter whose set has a point; what it writes is its file, and the output is not shorter
---   write-accepts    of such a filter it writes the file, where the output is not shorter
---   short-only       13 is given exactly where the output is shorter than the file of such a filter
+--   inputs-pass      the checks of a filter pass
+--   write-accepted   what Write accepts is a filter; what it writes is its file, and the output is not shorter
+--   write-accepts    of a filter it writes the file, where the output is not shorter
+--   short-only       13 is given exactly where the output is shorter than the file of a filter
 --   refused-inputs   another number is given exactly where the checks of the inputs refuse by it
 use mathlib.Core.Path.{_≡_, refl, sym, ap, _∙_}
 use mathlib.Core.Logic.{_↔_, _⊎_, _≢_, inl, inr}
-use mathlib.Core.Bool.{false}
 use mathlib.Core.List.{List, _++_}
 use Prim.Native.Nat.{ℕ, _≤_, _<_}
 use native.Mathlib.Omega.{arith}
@@ -21,23 +20,20 @@ use Rattle.refusal.specs.declared.verdict.Verdict.the-variants.{Passed, Refused
 use Rattle.refusal.specs.Verdict.{verdict}
 use Rattle.refusal.proofs.Outcomes.{not-both}
 use Rattle.refusal.proofs.Verdicts.{all-append, checked-append, verdict-refuses, passed-all, all-passed, accepted-passes, refused-either, refused-among}
-use Rattle.cube.specs.NumberLists.{isEmpty}
-use Rattle.cube.specs.Mask.{points}
 use Rattle.filter.specs.Filter.{Filter}
 use Rattle.filter.specs.Checks.{filterMasks}
-use Rattle.filter.proofs.Filters.{a-filter, some-point, passes}
+use Rattle.filter.proofs.Filters.{a-filter, passes}
 use Rattle.filter_file.specs.Write.{fileOf, writeInputs, roomFor, writeOutcome, WriteAccepts}
 use Rattle.filter_file.proofs.WriteAnswers.{write-passed, room-decides}
 
 module _ (n : ℕ) (s f : List ℕ) where
-  -- the checks of a filter whose set has a point pass
-  pub inputs-pass : Filter n s f → isEmpty (points s) ≡ false → verdict (writeInputs s f n) ≡ Passed
-  inputs-pass h some = all-passed (writeInputs s f n)
-      (eq-eqb (length s) 512 (h .set-long), (eq-eqb (length f) 512 (h .table-long), (h .tapped, passes n s f h some)))
+  -- the checks of a filter pass
+  pub inputs-pass : Filter n s f → verdict (writeInputs s f n) ≡ Passed
+  inputs-pass h =
+      all-passed (writeInputs s f n) (eq-eqb (length s) 512 (h .set-long), (eq-eqb (length f) 512 (h .table-long), (h .tapped, passes n s f h)))
 
-  -- what Write accepts is a filter whose set has a point; what it writes is its file, and the output is not shorter
-  pub write-accepted : (m : ℕ) (file : List ℕ) → WriteAccepts n s f m file
-      → Filter n s f × (isEmpty (points s) ≡ false) × (fileOf n s f ≡ file) × (length file ≤ m)
+  -- what Write accepts is a filter; what it writes is its file, and the output is not shorter
+  pub write-accepted : (m : ℕ) (file : List ℕ) → WriteAccepts n s f m file → Filter n s f × (fileOf n s f ≡ file) × (length file ≤ m)
   unfolding writeOutcome
   write-accepted m file e =
       let room = roomFor (length (fileOf n s f)) m in
@@ -45,11 +41,11 @@ module _ (n : ℕ) (s f : List ℕ) where
       let (set, (table, (tapped, rest))) = passed-all (writeInputs s f n ++ room) holds in
       let (masks, (long, _)) = all-append (filterMasks n s f) room .0 rest in
       let written : fileOf n s f ≡ file = cc same in
-      (a-filter n s f set table tapped masks, some-point n s f masks, written, rw written at (leb-true (length (fileOf n s f)) m long))
+      (a-filter n s f set table tapped masks, written, rw written at (leb-true (length (fileOf n s f)) m long))
 
-  -- of such a filter it writes the file, where the output is not shorter
-  pub write-accepts : (m : ℕ) → Filter n s f → isEmpty (points s) ≡ false → length (fileOf n s f) ≤ m → WriteAccepts n s f m (fileOf n s f)
-  write-accepts m h some l = room-decides n s f m (inputs-pass h some) ∙ rw (le-leb (length (fileOf n s f)) m l)
+  -- of a filter it writes the file, where the output is not shorter
+  pub write-accepts : (m : ℕ) → Filter n s f → length (fileOf n s f) ≤ m → WriteAccepts n s f m (fileOf n s f)
+  write-accepts m h l = room-decides n s f m (inputs-pass h) ∙ rw (le-leb (length (fileOf n s f)) m l)
 
   -- the checks of the inputs never refuse by 13
   other-numbers : {x : Refusal} → verdict (writeInputs s f n) ≡ Refused x → numberOf x ≢ 13
@@ -68,14 +64,14 @@ module _ (n : ℕ) (s f : List ℕ) where
         ]
       ]
 
-  -- 13 is given exactly where the output is shorter than the file of such a filter
-  pub short-only : (m : ℕ) → (writeOutcome s f n m ≡ refused 13) ↔ (Filter n s f × (isEmpty (points s) ≡ false) × (m < length (fileOf n s f)))
+  -- 13 is given exactly where the output is shorter than the file of a filter
+  pub short-only : (m : ℕ) → (writeOutcome s f n m ≡ refused 13) ↔ (Filter n s f × (m < length (fileOf n s f)))
   short-only m = (
     λ e. elim (refused-how m 13 e) [
       | inl (x, broken, same) ↦ absurd (other-numbers broken same)
-      | inr (passed, _, l) ↦ let (h, some) = write-passed n s f passed in (h, some, l)
+      | inr (passed, _, l) ↦ (write-passed n s f passed, l)
     ],
-    λ (h, some, l). room-decides n s f m (inputs-pass h some) ∙ rw (lt-leb (length (fileOf n s f)) m l),
+    λ (h, l). room-decides n s f m (inputs-pass h) ∙ rw (lt-leb (length (fileOf n s f)) m l),
   )
 
   -- another number is given exactly where the checks of the inputs refuse by it

@@ -2,13 +2,11 @@
 --   file-fits   n and both lists take at most 2,053 bytes
 --   file-made   n, the list of the set and that of the table, written from the front of a buffer, are the file
 use mathlib.Core.Path.{_≡_, ap, _∙_}
-use mathlib.Core.Bool.{false}
 use mathlib.Core.List.{List, _++_, append-assoc}
 use Prim.Native.Nat.{ℕ, _+_, _≤_}
 use native.Mathlib.Omega.{arith}
 use lib.ListN.{length, take, drop, length-append}
 use lib.Seq.{take-at}
-use Rattle.cube.specs.NumberLists.{isEmpty}
 use Rattle.cube.specs.Mask.{points}
 use Rattle.buffer.specs.Appends.{Appends}
 use Rattle.buffer.proofs.Appending.{appends-then}
@@ -32,9 +30,8 @@ module _ (n : ℕ) (s f : List ℕ) where
       )
 
   -- they are at most 2,053
-  pub file-fits : Filter n s f → isEmpty (points s) ≡ false
-      → length (encodeVarint n) + length (encodeList (points s)) + length (encodeList (points f)) ≤ 2053
-  file-fits h some = omega (arith, length-file, longest (contentsOf n s f) (filter-valid h some))
+  pub file-fits : Filter n s f → length (encodeVarint n) + length (encodeList (points s)) + length (encodeList (points f)) ≤ 2053
+  file-fits h = omega (arith, length-file, longest (contentsOf n s f) (filter-valid h))
 
   -- written from the front of a buffer they are the file
   pub file-made : {made one two last : List ℕ} {a b r : ℕ}

@@ -29,7 +29,7 @@ contentsOf n s f = record { n = n; set = points s; table = points f }
 abbrev pub fileOf : ℕ → List ℕ → List ℕ → List ℕ
 fileOf n s f = encode (contentsOf n s f)
 
--- lengths, taps, the set's bytes, the table's bytes, a point in the set
+-- lengths, taps, the set's bytes, the table's bytes
 abbrev pub writeInputs : List ℕ → List ℕ → ℕ → List Check
 writeInputs s f n = filterLengths s f ++ tapsOf n ++ filterMasks n s f
 

@@ -34,7 +34,7 @@ pub fn write(set: &[u8], table: &[u8], n: usize, output: &mut [u8]) -> WriteAnsw
     }
 }
 
-// The checks of the set, the table and `n`: lengths, the taps, the bytes of the set and of the table, a point in the set.
+// The checks of the set, the table and `n`: lengths, the taps, the bytes of the set and of the table.
 fn write_checks(set: &[u8], table: &[u8], n: usize) -> Verdict
     ensures { λ r. ⌜ r ≡ verdict (writeInputs (now (set .entry)) (now (table .entry)) n) ⌝ }
 {

@@ -9,6 +9,7 @@ pub mod FirstUpTo
 pub mod Given
 pub mod Mark
 pub mod NewPoint
+pub mod NoPoint
 pub mod PartPoints
 pub mod Reported
 pub mod SideDegrees

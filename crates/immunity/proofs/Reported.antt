@@ -4,7 +4,8 @@
 --   equal-differs     it does not where they are equal, and nowhere else
 --   equal-just        equal ranks mean that there is no annihilator up to the degree
 --   outside-differs   at degree n a side differs whose part misses a point of the set
---   reports           a degree is reported, and is that
+--   reported-first    a degree that is reported is that
+--   reports           where the set has a point a degree is reported, and is that
 --   filter-reports    the same of a filter whose set has a point
 use mathlib.Core.Path.{_≡_, refl, sym, _∙_}
 use mathlib.Core.Bool.{Bool, true, false, _||_, or-true, false≢true}
@@ -32,8 +33,8 @@ use Rattle.filter.specs.Part.{part}
 use Rattle.filter.proofs.Filters.{few-taps}
 use Rattle.immunity.specs.Judgement.{EqualRanks, differs, eitherDiffers, reported}
 use Rattle.immunity.specs.Annihilator.{Annihilator}
-use Rattle.immunity.proofs.First.{First, first-found}
-use Rattle.immunity.proofs.FirstUpTo.{degree-below}
+use Rattle.immunity.proofs.First.{first-found}
+use Rattle.immunity.proofs.FirstUpTo.{degree-below, first-degree}
 use Rattle.immunity.proofs.Equal.{equal-none}
 use Rattle.immunity.proofs.PartPoints.{part-among}
 
@@ -89,6 +90,11 @@ module _ {o : List ℕ} (g : Graded o) {n : ℕ} (small : n ≤ 9) (s f : List �
       before : (side d : ℕ) → side ≤ 1 → d < k → EqualRanks o n s f side d
       before side d m i = both-equal d (b d i) side m
 
+  -- a degree that is reported is the first at which a side differs
+  pub reported-first : (k : ℕ) → reported o n s f ≡ some k → FirstDiffers o n s f k
+  unfolding reported
+  reported-first k e = let r = first-degree (eitherDiffers o n s f) n k .0 e in first-reports k (r .within) (r .before) (r .passes)
+
   module _ (inside : Inside (size n) (points s)) (a : ℕ) (point : List·Memᴰ a (points s)) where
     -- at degree n a side whose part misses a point differs: a polynomial is one just there
     pub outside-differs : (side : ℕ) → eqb (getD f a 0) side ≡ false → ¬ EqualRanks o n s f side n
@@ -111,12 +117,9 @@ module _ {o : List ℕ} (g : Graded o) {n : ℕ} (small : n ≤ 9) (s f : List �
     -- a degree is reported, and is the first at which a side differs
     pub reports : (k : ℕ) × (reported o n s f ≡ some k) × FirstDiffers o n s f k
     unfolding reported
-    reports = go (first-found (eitherDiffers o n s f) (below (n + 1)) (below-rising (n + 1)) n (degree-below n n .1 (omega arith)) some-side)
-      where
-        go : First (eitherDiffers o n s f) (below (n + 1)) (reported o n s f) → (k : ℕ) × (reported o n s f ≡ some k) × FirstDiffers o n s f k
-        go r =
-            let up : r .place ≤ n = degree-below n (r .place) .0 (r .member) in
-            (r .place, r .is, first-reports (r .place) up (λ d i. r .before d (degree-below n d .1 (omega arith)) i) (r .passes))
+    reports =
+        let r = first-found (eitherDiffers o n s f) (below (n + 1)) (below-rising (n + 1)) n (degree-below n n .1 (omega arith)) some-side in
+        (r .place, r .is, reported-first (r .place) (r .is))
 
 -- of a filter whose set has a point a degree is reported, and is that
 pub filter-reports : {o : List ℕ} → Graded o → (n : ℕ) (s f : List ℕ) → Filter n s f → isEmpty (points s) ≡ false

@@ -7,12 +7,13 @@
 --   side-other         the other side has degree 0 then
 --   sides-smaller      the reported degree is the smaller of those that exist
 --   sides-one          some side's own is the reported one
+--   side-most          the side is at most 1
 --   side-is-1          the side is 1 exactly when side 1 has a degree and it is the reported one
 use mathlib.Core.Path.{_≡_, refl, sym, ap, _∙_}
 use mathlib.Core.Logic.{_↔_, _≢_, inl, inr}
 use mathlib.Core.Bool.{Bool, true, false}
 use mathlib.Core.List.{List, List·Memᴰ}
-use mathlib.Core.Option.{Option, none, some}
+use mathlib.Core.Option.{Option, none, some, Option·none-ne-some, Option·some-injective}
 use Prim.Native.Nat.{ℕ, _+_, _≤_, _<_}
 use native.Mathlib.Omega.{arith}
 use native.Mathlib.Decide.{decLt}
@@ -77,18 +78,34 @@ module _ (o : List ℕ) (n : ℕ) (s f : List ℕ) where
       own : (side : ℕ) → side ≤ 1 → ¬ EqualRanks o n s f side k → sideDegree o n s f side ≡ some k
       own side l h = side-first side k .1 (r .within, h, λ d i. r .before side d l i)
 
-  -- the side is 1 exactly when side 1 has a degree and it is the reported one
-  pub side-is-1 : (k : ℕ) → reported o n s f ≡ some k → FirstDiffers o n s f k
-      → (sideAt o n s f (reported o n s f) ≡ 1) ↔ ((d : ℕ) × (sideDegree o n s f 1 ≡ some d) × (reported o n s f ≡ some d))
+  -- the side is at most 1
+  pub side-most : (x : Option ℕ) (i : ℕ) → sideAt o n s f x ≡ some i → i ≤ 1
   unfolding sideAt
-  side-is-1 k is r = (
-    λ e. (k, side-first 1 k .1 (r .within, unequal-differs o n s f k 1 .0 (byte-one (test 1 k) (sym (ap (sideAt o n s f) is) ∙ e)), λ d l. r .before 1 d (omega arith) l), is),
-    λ (d, e, q). ap (sideAt o n s f) q ∙ ap byte (unequal-differs o n s f d 1 .1 (side-first 1 d .0 e .1)),
+  side-most none i e = absurd (Option·none-ne-some i e)
+  side-most (some k) i e = bounded (differs o n s f k 1) (Option·some-injective _ _ e)
+    where
+      bounded : (b : Bool) → byte b ≡ i → i ≤ 1
+      bounded true q = omega arith
+      bounded false q = omega arith
+
+  -- the side is 1 exactly when side 1 has a degree and it is the reported one
+  pub side-is-1 : ((k : ℕ) → reported o n s f ≡ some k → FirstDiffers o n s f k)
+      → (sideAt o n s f (reported o n s f) ≡ some 1) ↔ ((d : ℕ) × (sideDegree o n s f 1 ≡ some d) × (reported o n s f ≡ some d))
+  unfolding sideAt
+  side-is-1 firsts = (
+    λ e. go (reported o n s f) refl e,
+    λ (d, e, q). ap (sideAt o n s f) q ∙ ap (λ b. some (byte b)) (unequal-differs o n s f d 1 .1 (side-first 1 d .0 e .1)),
   )
     where
       byte-one : (b : Bool) → byte b ≡ 1 → b ≡ true
       byte-one true e = refl
       byte-one false e = absurd (omega arith)
+
+      go : (x : Option ℕ) → reported o n s f ≡ x → sideAt o n s f x ≡ some 1 → (d : ℕ) × (sideDegree o n s f 1 ≡ some d) × (reported o n s f ≡ some d)
+      go none is e = absurd (Option·none-ne-some 1 e)
+      go (some k) is e =
+          let r = firsts k is in
+          (k, side-first 1 k .1 (r .within, unequal-differs o n s f k 1 .0 (byte-one (test 1 k) (Option·some-injective _ _ e)), λ d l. r .before 1 d (omega arith) l), is)
 
 module _ {o : List ℕ} (g : Graded o) {n : ℕ} (small : n ≤ 9) (s f : List ℕ) (side : ℕ) where
   -- none exactly when the side has no annihilator

@@ -5,10 +5,10 @@
 --   reported o n s f            the first degree at which a side differs, or none
 --   sideDegree o n s f side     a side's own degree: the first at which that side differs, or none
 --   ranksAt o n s f d           the ranks of the set, part 1 and part 0 at a degree; all 0 past n
---   sideAt .. k                 the side for the reported degree: 1 if side 1 differs there, else 0
+--   sideAt .. k                 the side for the reported degree: 1 if side 1 differs there, else 0; none where no degree is reported
 --   additionsAt                 the additions of the three eliminations at a degree
 --   summed t xs                 the sum of t over a list
---   witnessBytes .. k side      the witness buffer of a side for the reported degree: zeros where the side does not differ
+--   witnessBytes .. k side      the witness buffer of a side for the reported degree: zeros where the side does not differ, or no degree is reported
 --   keptBytes o n s k           the mask of the kept points of the set for the reported degree: zeros where there is none
 --   Judgement, judged           all of it
 --   setRank j d                 the rank of the set at degree d that a judgement gives
@@ -60,11 +60,11 @@ unfoldable pub ranksAt : List ℕ → ℕ → List ℕ → List ℕ → ℕ → 
 unfolding ranksIf
 ranksAt o n s f d = ranksUpTo o n (points s) (bothParts s f) d
 
--- the side for the reported degree
-unfoldable pub sideAt : List ℕ → ℕ → List ℕ → List ℕ → Option ℕ → ℕ
+-- the side for the reported degree, or none
+unfoldable pub sideAt : List ℕ → ℕ → List ℕ → List ℕ → Option ℕ → Option ℕ
 unfolding differs
-sideAt o n s f none = 0
-sideAt o n s f (some k) = byte (differs o n s f k 1)
+sideAt o n s f none = none
+sideAt o n s f (some k) = some (byte (differs o n s f k 1))
 
 -- the additions at a degree
 unfoldable pub additionsAt : List ℕ → ℕ → List ℕ → List ℕ → ℕ → ℕ
@@ -92,7 +92,7 @@ pub record Judgement : Type 0 where
   pub ranks : List Ranks
   pub mark : Option ℕ
   pub degree : Option ℕ
-  pub side : ℕ
+  pub side : Option ℕ
   pub degrees : Sides (Option ℕ)
   pub additions : ℕ
   pub witnesses : Sides (List ℕ)

@@ -3,14 +3,16 @@
 --   first-given       the first degree whose ranks pass a test, of the ranks found and of the definition's
 --   first-reported    the first degree at which they differ is the reported one
 --   side-none         where the ranks of the set and of a side's part are equal, the part has no new point
---   mask-reported       where the points with pivots in the columns of a degree are marked, the mask is that of the points kept there
+--   mask-reported     where the points with pivots in the columns of a degree are marked, the mask is that of the points kept there
 --   judgement-found   what is found and reported is the judgement
+--   judgement-none    where the set has no point, zeros and nothing else are the judgement
 --   in-order          what is answered and left in an equal order
 --   refuses           a broken check
---   accepts           no check is broken
-use mathlib.Core.Path.{_≡_, sym, ap, ap₂, _∙_, subst}
+--   accepts           no check is broken, and the set has a point
+--   accepts-none      or it has none
+use mathlib.Core.Path.{_≡_, refl, sym, ap, ap₂, _∙_, subst}
 use mathlib.Core.Bool.{Bool, false}
-use mathlib.Core.List.{List, map, List·Memᴰ}
+use mathlib.Core.List.{List, [], map, List·Memᴰ}
 use mathlib.Core.Option.{Option, none, some, Option·getD}
 use Prim.Native.Nat.{ℕ, _+_, _≤_}
 use native.Mathlib.Omega.{arith}
@@ -53,12 +55,13 @@ use Rattle.immunity.proofs.FirstUpTo.{degree-below}
 use Rattle.immunity.proofs.Given.{ranks-given, set-given}
 use Rattle.immunity.proofs.Mark.{mark-exists}
 use Rattle.immunity.proofs.NewPoint.{new-point-none}
+use Rattle.immunity.proofs.NoPoint.{ranks-none, reported-none, no-side, side-degree-none, mark-none, additions-none, witness-none, kept-none}
 use Rattle.immunity.proofs.Reported.{filter-reports}
 use Rattle.degree_ranks.specs.Cut.{columnCount}
 use Rattle.judge.specs.declared.JudgeAnswer.{JudgeAnswer}
 use Rattle.judge.specs.declared.Report.{Report}
-use Rattle.judge.specs.declared.Finding.the-variants.{Refused, Judged}
-use Rattle.judge.specs.Judge.{judgeChecks, judgeOutcome, judgementOf, found, JudgeContract}
+use Rattle.judge.specs.declared.Finding.the-variants.{Refused, NoPoint, Judged}
+use Rattle.judge.specs.Judge.{judgeChecks, judgeOutcome, judgementOf, noPointJudgement, found, outcomeOf, JudgeContract}
 
 module _ (o : List ℕ) (n : ℕ) (s f : List ℕ) where
   -- the judgement
@@ -113,11 +116,11 @@ module _ (o : List ℕ) (n : ℕ) (s f : List ℕ) where
     degrees-judged h = h ∙ ap₂ pair (first-given (λ r. partDiffers r 1)) (first-given (λ r. partDiffers r 0))
 
     -- the side there
-    side-judged : {k : ℕ} → k ≤ n → reported o n s f ≡ some k → byte (partDiffers (getD ranks k noRanks) 1) ≡ sideAt o n s f (reported o n s f)
+    side-judged : {k : ℕ} → k ≤ n → reported o n s f ≡ some k → some (byte (partDiffers (getD ranks k noRanks) 1)) ≡ sideAt o n s f (reported o n s f)
     unfolding sideAt differs
     side-judged {k} l r =
         let all = ap (λ x. getD x k noRanks) given ∙ ranks-given o n s f k l small in
-        ap (λ (x : Ranks). byte (partDiffers x 1)) all ∙ sym (ap (sideAt o n s f) r)
+        ap (λ (x : Ranks). some (byte (partDiffers x 1))) all ∙ sym (ap (sideAt o n s f) r)
 
 module _ (o : List ℕ) (n : ℕ) (ss : List ℕ) (ps : Sides (List ℕ)) (rising : Rising ss) (small : n ≤ 9)
     (ranks : List Ranks) (h : ranks ≡ map (ranksUpTo o n ss ps) (below 10)) (k : ℕ) (l : k ≤ n)
@@ -140,7 +143,7 @@ unfolding keptMask
 mask-reported o n pivots qs ss h {k} l e g = g ∙ ap (λ c. mask (lists (pointsBelow c pivots qs))) e ∙ ap (λ x. mask (lists x)) (h k l)
 
 -- judgements are equal by parts
-judgement-by : {xs ys : List Ranks} {m i k j : Option ℕ} {a b c d : ℕ} {ks js : Sides (Option ℕ)} {v w : Sides (List ℕ)} {p q : List ℕ}
+judgement-by : {xs ys : List Ranks} {m i k j a b : Option ℕ} {c d : ℕ} {ks js : Sides (Option ℕ)} {v w : Sides (List ℕ)} {p q : List ℕ}
     → xs ≡ ys → m ≡ i → k ≡ j → a ≡ b → ks ≡ js → c ≡ d → v ≡ w → p ≡ q
     → _≡_ {A = Judgement} (record { ranks = xs; mark = m; degree = k; side = a; degrees = ks; additions = c; witnesses = v; kept = p })
     (record { ranks = ys; mark = i; degree = j; side = b; degrees = js; additions = d; witnesses = w; kept = q })
@@ -197,6 +200,20 @@ module _ {o : List ℕ} (g : Graded o) {n : ℕ} {s f : List ℕ} (filter : Filt
         (bytes-judged o n s f p is-reported e)
         (kept-judged o n s f is-reported q)
 
+-- where the set has no point, zeros and nothing else are the judgement
+pub judgement-none : (o : List ℕ) (n : ℕ) (s f : List ℕ) → points s ≡ [] → {ranks : List Ranks} {w : Sides (List ℕ)} {kept : List ℕ} → ranks ≡ replicate 10 noRanks
+    → w ≡ pair (zeros 512) (zeros 512) → kept ≡ zeros 512 → noPointJudgement ranks w kept ≡ judged o n s f
+unfolding judged
+judgement-none o n s f empty r w m = judgement-by
+    (r ∙ sym (ranks-none o n s f empty))
+    (sym (mark-none o n s f empty))
+    (sym (reported-none o n s f empty))
+    (sym (no-side o n s f empty))
+    (sym (ap₂ pair (side-degree-none o n s f empty 1) (side-degree-none o n s f empty 0)))
+    (sym (additions-none o n s f empty))
+    (w ∙ sym (ap₂ pair (witness-none o n s f empty 1) (witness-none o n s f empty 0)))
+    (m ∙ sym (kept-none o n s f empty))
+
 module _ (o s f : List ℕ) (n : ℕ) (ws one zero kept : List ℕ) where
   -- the checks of what is lent
   abbrev checks : List Check
@@ -225,16 +242,29 @@ module _ (o s f : List ℕ) (n : ℕ) (ws one zero kept : List ℕ) where
         leaves-kept = sym (ap (λ y. leftBy y kept (λ j. j .kept)) broken);
       }
 
-  -- no check is broken
-  pub accepts : verdict checks ≡ verdicts.Passed → {ws′ : List ℕ} {w : Sides (List ℕ)} {kept′ : List ℕ} {ranks : List Ranks} {r : Report} → ws′ ≡ zeros (length ws)
-      → judgementOf r ranks w kept′ ≡ judged o n s f → JudgeContract outcome ws ws′ (pair one zero) w kept kept′ (record { finding = Judged r; ranks = ranks })
+  -- no check is broken, and an answer states the judgement
+  accepts-found : verdict checks ≡ verdicts.Passed → {ws′ : List ℕ} {w : Sides (List ℕ)} {kept′ : List ℕ} {r : JudgeAnswer} → ws′ ≡ zeros (length ws)
+      → (i : Judgement) → outcomeOf r w kept′ ≡ accepted i → r .ranks ≡ i .ranks → w ≡ i .witnesses → kept′ ≡ i .kept → i ≡ judged o n s f
+      → JudgeContract outcome ws ws′ (pair one zero) w kept kept′ r
   unfolding judgeOutcome
-  accepts p z e =
+  accepts-found p z i says ranks bytes marks e =
       let passes : outcome ≡ accepted (judged o n s f) = verdict-passes checks _ p in
       record {
-        answers = ap accepted e ∙ sym passes;
-        no-ranks = ap (λ (j : Judgement). j .ranks) e ∙ sym (ap (λ y. leftBy y (replicate 10 noRanks) (λ j. j .ranks)) passes);
+        answers = says ∙ ap accepted e ∙ sym passes;
+        no-ranks = ranks ∙ ap (λ (j : Judgement). j .ranks) e ∙ sym (ap (λ y. leftBy y (replicate 10 noRanks) (λ j. j .ranks)) passes);
         leaves = z ∙ sym (ap (λ y. left y ws (zeros (length ws))) passes);
-        leaves-witnesses = ap (λ (j : Judgement). j .witnesses) e ∙ sym (ap (λ y. leftBy y (pair one zero) (λ j. j .witnesses)) passes);
-        leaves-kept = ap (λ (j : Judgement). j .kept) e ∙ sym (ap (λ y. leftBy y kept (λ j. j .kept)) passes);
+        leaves-witnesses = bytes ∙ ap (λ (j : Judgement). j .witnesses) e ∙ sym (ap (λ y. leftBy y (pair one zero) (λ j. j .witnesses)) passes);
+        leaves-kept = marks ∙ ap (λ (j : Judgement). j .kept) e ∙ sym (ap (λ y. leftBy y kept (λ j. j .kept)) passes);
       }
+
+  -- the set has a point: a report states it
+  pub accepts : verdict checks ≡ verdicts.Passed → {ws′ : List ℕ} {w : Sides (List ℕ)} {kept′ : List ℕ} {ranks : List Ranks} {r : Report} → ws′ ≡ zeros (length ws)
+      → judgementOf r ranks w kept′ ≡ judged o n s f → JudgeContract outcome ws ws′ (pair one zero) w kept kept′ (record { finding = Judged r; ranks = ranks })
+  accepts p {w = w} {kept′ = kept′} {ranks = ranks} {r = r} z e = accepts-found p z (judgementOf r ranks w kept′) refl refl refl refl e
+
+  -- it has none: zeros state it
+  pub accepts-none : verdict checks ≡ verdicts.Passed → points s ≡ [] → {ws′ : List ℕ} {w : Sides (List ℕ)} {kept′ : List ℕ} {r : JudgeAnswer} → ws′ ≡ zeros (length ws)
+      → (r .finding ≡ NoPoint) × (r .ranks ≡ replicate 10 noRanks) → w ≡ pair (zeros 512) (zeros 512) → kept′ ≡ zeros 512
+      → JudgeContract outcome ws ws′ (pair one zero) w kept kept′ r
+  accepts-none p empty {w = w} {kept′ = kept′} {r = r} z (says, ranks) bytes marks =
+      accepts-found p z (noPointJudgement (r .ranks) w kept′) (ap (λ x. found x (r .ranks) w kept′) says) refl refl refl (judgement-none o n s f empty ranks bytes marks)

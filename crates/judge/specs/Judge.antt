@@ -2,19 +2,20 @@
 --   judgeChecks s f n m p q l   the checks of Judge, lent the set s, the table f, a workspace of m numbers, witness buffers of p and q bytes and a mask of l bytes for the kept points
 --   judgeOutcome o s f n ..     what Judge answers and leaves in the order o: the first refusal, or the judgement of the set and the table
 --   judgementOf r ranks w m     the judgement that a report states, with the ranks, the witness buffers w and the mask m of kept points
+--   noPointJudgement ranks w m  the judgement that `NoPoint` states, with the same: no mark, degree or side, and 0 additions
 --   found ..                    the number or the values of what was found
 --   outcomeOf r w m             what an answer, with the witness buffers w and the mask m at exit, states
 --   JudgeContract o ..          the contract of Judge: it answers the outcome o, and leaves what that says
 --   JudgeAccepts o n s f j      Judge accepts n taps, the set s and the table f, lent buffers of the right lengths, and answers and leaves j
 use mathlib.Core.Path.{_≡_}
 use mathlib.Core.List.{List, _++_}
-use mathlib.Core.Option.{some}
+use mathlib.Core.Option.{none, some}
 use Prim.Native.Nat.{ℕ}
 use lib.ListN.{length, replicate}
 use Rattle.refusal.specs.Refusal.{numberOf}
 use Rattle.refusal.specs.Outcome.{Outcome, refused, accepted, Check, checked, left, leftBy}
 use Rattle.packed.specs.Packed.{zeros}
-use Rattle.filter.specs.Sides.{Sides}
+use Rattle.filter.specs.Sides.{Sides, pair}
 use Rattle.filter.specs.Checks.{lengthIs, tapsOf, filterLengths, filterMasks}
 use Rattle.immunity.specs.declared.Ranks.{Ranks}
 use Rattle.immunity.specs.Ranks.{noRanks}
@@ -23,9 +24,9 @@ use Rattle.immunity.specs.Judgement.{Judgement, judged}
 use Rattle.judge.specs.declared.JudgeAnswer.{JudgeAnswer}
 use Rattle.judge.specs.declared.Report.{Report}
 use Rattle.judge.specs.declared.Finding.{Finding}
-use Rattle.judge.specs.declared.Finding.the-variants.{Refused, Judged}
+use Rattle.judge.specs.declared.Finding.the-variants.{Refused, NoPoint, Judged}
 
--- lengths, taps, the set's bytes, the table's bytes, a point in the set
+-- lengths, taps, the set's bytes, the table's bytes
 abbrev pub judgeChecks : List ℕ → List ℕ → ℕ → ℕ → ℕ → ℕ → ℕ → List Check
 judgeChecks s f n m p q l = filterLengths s f ++ lengthIs m 8192 ++ lengthIs p 512 ++ lengthIs q 512 ++ lengthIs l 512 ++ tapsOf n ++ filterMasks n s f
 
@@ -39,9 +40,22 @@ judgementOf r ranks w m = record {
   ranks = ranks;
   mark = some (r .mark);
   degree = some (r .degree);
-  side = r .side;
+  side = some (r .side);
   degrees = degreesOf (r .one) (r .zero);
   additions = r .additions;
+  witnesses = w;
+  kept = m;
+}
+
+-- the same of a set without a point: no mark, no degree, no side, no degree of either side, no addition
+abbrev pub noPointJudgement : List Ranks → Sides (List ℕ) → List ℕ → Judgement
+noPointJudgement ranks w m = record {
+  ranks = ranks;
+  mark = none;
+  degree = none;
+  side = none;
+  degrees = pair none none;
+  additions = 0;
   witnesses = w;
   kept = m;
 }
@@ -49,6 +63,7 @@ judgementOf r ranks w m = record {
 -- the number or the values of what was found
 abbrev pub found : Finding → List Ranks → Sides (List ℕ) → List ℕ → Outcome Judgement
 found (Refused x) ranks w m = refused (numberOf x)
+found NoPoint ranks w m = accepted (noPointJudgement ranks w m)
 found (Judged r) ranks w m = accepted (judgementOf r ranks w m)
 
 -- the same of an answer

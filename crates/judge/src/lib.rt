@@ -1,21 +1,25 @@
 // Judge: docs/SPECIFICATION.md, 'Judge'. The ranks of a set and of its two parts at each degree, the mark, the reported
 // degree, each side's own, the witnesses, and the kept points of the set.
 ghost use mathlib.Core.Path.{_≡_};
+ghost use mathlib.Core.Bool.{false};
 ghost use mathlib.Core.Option.{none};
 ghost use Prim.Native.Nat.{_≤_};
 ghost use lib.ListN.{length, replicate};
+ghost use Rattle.cube.specs.NumberLists.{isEmpty};
 ghost use Rattle.cube.specs.Mask.{points, byte, mask};
 ghost use Rattle.refusal.specs.Verdict.{verdict};
 ghost use Rattle.refusal.specs.declared.verdict.Verdict.the-variants.{Passed};
 ghost use Rattle.order.specs.Order.{Graded};
 ghost use Rattle.order.specs.BuiltIn.{graded};
+ghost use Rattle.packed.specs.Packed.{zeros};
 ghost use Rattle.filter.specs.Sides.{pair};
 ghost use Rattle.immunity.specs.Ranks.{noRanks, partDiffers};
 ghost use Rattle.immunity.specs.Witness.{newPoint, witnessAt};
 ghost use Rattle.degree_ranks.specs.Ready.{Ready, Marks};
-ghost use Rattle.judge.specs.declared.Finding.the-variants.{Refused};
+ghost use Rattle.judge.specs.declared.Finding.the-variants.{NoPoint};
 ghost use Rattle.judge.specs.Judge.{judgeChecks, judgeOutcome, JudgeContract};
 use cube::POINTS;
+use cube::mask::is_empty;
 use degree_ranks::DEGREES;
 use degree_ranks::FoundDegrees;
 use degree_ranks::all_ranks;
@@ -29,6 +33,7 @@ use filter::checks::check_taps;
 use filter::part::part_mask;
 use immunity::FirstDegree;
 use immunity::Ranks;
+use matrix::kept::clear_bytes;
 use matrix::kept::mark_below;
 use order::columns::column_count;
 use order::graded_order;
@@ -40,7 +45,7 @@ use refusal::Refusal;
 use refusal::verdict::Verdict;
 use witness::write_side;
 
-// What Judge reports beside the ranks; `one` is side 1's own degree, `zero` side 0's.
+// What Judge reports of a set with a point, beside the ranks; `one` is side 1's own degree, `zero` side 0's.
 pub struct Report {
     pub mark: usize,
     pub degree: usize,
@@ -50,13 +55,15 @@ pub struct Report {
     pub additions: u32,
 }
 
-// What Judge found.
+// What Judge found. A set without a point has no mark, no degree, no side and no degree of either side, and there are 0
+// additions.
 pub enum Finding {
     Refused(Refusal),
+    NoPoint,
     Judged(Report),
 }
 
-// What Judge answers: the finding, and the ranks at each degree, all 0 past n and where Judge refuses.
+// What Judge answers: the finding, and the ranks at each degree, all 0 past n, without a point and where Judge refuses.
 pub struct JudgeAnswer {
     pub finding: Finding,
     pub ranks: [Ranks; 10],
@@ -64,7 +71,8 @@ pub struct JudgeAnswer {
 
 // The ranks of the set and its parts at each degree, the mark, the first degree at which a part's rank differs from the
 // set's, each side's own such degree, and the witness of each side that differs at the first; for a set and a table of
-// `n` taps. `kept` then marks the kept points of the set at the first degree of all, the reported one.
+// `n` taps. `kept` then marks the kept points of the set at the first degree of all, the reported one. Without a point
+// there is no degree, and the witnesses and `kept` are zeros.
 pub fn judge(
     set: &[u8],
     table: &[u8],
@@ -86,15 +94,18 @@ pub fn judge(
         zero.len(),
         kept.len(),
     ) {
-        Verdict::Refused(x) => refuse(x),
+        Verdict::Refused(x) => without_ranks(Finding::Refused(x)),
         Verdict::Passed => {
+            if is_empty(set) {
+                return judge_no_point(workspace, one, zero, kept);
+            }
             let order = graded_order();
             judge_points(set, table, n, &order, workspace, one, zero, kept)
         }
     }
 }
 
-// The checks: lengths, the taps, the bytes of the set and of the table, a point in the set.
+// The checks: lengths, the taps, the bytes of the set and of the table.
 fn judge_checks(
     set: &[u8],
     table: &[u8],
@@ -115,12 +126,12 @@ fn judge_checks(
     check_filter_masks(v, set, table, n)
 }
 
-// A refusal: the ranks are all 0.
-fn refuse(why: Refusal) -> JudgeAnswer
-    ensures { λ r. ⌜ (r .finding ≡ Refused why) × (r .ranks ≡ replicate 10 noRanks) ⌝ }
+// A finding where all ranks are 0.
+fn without_ranks(finding: Finding) -> JudgeAnswer
+    ensures { λ r. ⌜ (r .finding ≡ finding) × (r .ranks ≡ replicate 10 noRanks) ⌝ }
 {
     JudgeAnswer {
-        finding: Finding::Refused(why),
+        finding,
         ranks: [Ranks {
             set: 0,
             one: 0,
@@ -129,7 +140,23 @@ fn refuse(why: Refusal) -> JudgeAnswer
     }
 }
 
-// The same of a set and a table that passed the checks, the columns in the order lent; the workspace is then zero.
+// Judge of a set without a point: the workspace, the witness buffers and `kept` become zero.
+fn judge_no_point(ws: &mut [u64], one: &mut [u8], zero: &mut [u8], kept: &mut [u8]) -> JudgeAnswer
+    ensures { λ r. ⌜ (r .finding ≡ NoPoint) × (r .ranks ≡ replicate 10 noRanks) ⌝ }
+    ensures { λ _. ⌜ now (ws .exit) ≡ zeros (length (now (ws .entry))) ⌝ }
+    ensures { λ _. ⌜ now (one .exit) ≡ zeros (length (now (one .entry))) ⌝ }
+    ensures { λ _. ⌜ now (zero .exit) ≡ zeros (length (now (zero .entry))) ⌝ }
+    ensures { λ _. ⌜ now (kept .exit) ≡ zeros (length (now (kept .entry))) ⌝ }
+{
+    clear(ws);
+    clear_bytes(one);
+    clear_bytes(zero);
+    clear_bytes(kept);
+    without_ranks(Finding::NoPoint)
+}
+
+// Judge of a set with a point and a table that passed the checks, the columns in the order lent; the workspace is then
+// zero.
 fn judge_points(
     set: &[u8],
     table: &[u8],
@@ -140,7 +167,7 @@ fn judge_points(
     zero: &mut [u8],
     kept: &mut [u8],
 ) -> JudgeAnswer
-    requires { ⌜ (verdict (judgeChecks (now set) (now table) n (length (now ws)) (length (now one)) (length (now zero)) (length (now kept))) ≡ Passed) × Graded (now order) ⌝ }
+    requires { ⌜ (verdict (judgeChecks (now set) (now table) n (length (now ws)) (length (now one)) (length (now zero)) (length (now kept))) ≡ Passed) × (isEmpty (points (now set)) ≡ false) × Graded (now order) ⌝ }
     ensures { λ r. ⌜ JudgeContract (judgeOutcome (now (order .entry)) (now (set .entry)) (now (table .entry)) n (length (now (ws .entry))) (length (now (one .entry))) (length (now (zero .entry))) (length (now (kept .entry))))
         (now (ws .entry)) (now (ws .exit)) (pair (now (one .entry)) (now (zero .entry))) (pair (now (one .exit)) (now (zero .exit))) (now (kept .entry)) (now (kept .exit)) r ⌝ }
 {

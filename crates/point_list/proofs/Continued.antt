@@ -6,7 +6,7 @@ use mathlib.Core.List.{List, _++_}
 use Prim.Native.Nat.{ℕ, zero, suc, _+_}
 use native.Mathlib.Omega.{arith}
 use lib.Dec.{ltb, leb}
-use Rattle.refusal.specs.declared.Refusal.the-variants.{Range, EmptySet}
+use Rattle.refusal.specs.declared.Refusal.the-variants.{Range}
 use Rattle.refusal.specs.Outcome.{Outcome, refused, accepted}
 use Rattle.varint.specs.Drawn.{Drawn, _leaving_}
 use Rattle.varint.specs.Varint.{varint}
@@ -15,7 +15,7 @@ use Rattle.point_list.specs.PointList.{before, pointsFrom, pointList}
 
 -- a point before others
 continued-before : (t : List ℕ) (x : ℕ) (o p : Outcome (Drawn (List ℕ))) → Continued (Longer t) o p → Continued (Longer t) (before x o) (before x p)
-continued-before t x (refused k) p h = record { low = h .low; high = h .high; same = λ n. rw (h .same n) }
+continued-before t x (refused k) p h = record { low = h .low; high = h .high; named = h .named; same = λ n. rw (h .same n) }
 continued-before t x (accepted (ps leaving rest)) p h = rw h
 
 -- points
@@ -28,8 +28,7 @@ points-continued m (suc k) prev least s t = continued-draw (Longer t) t _ (varin
     (continued-before t (prev + v) (pointsFrom m k (prev + v) 1 rest) (pointsFrom m k (prev + v) 1 (rest ++ t)) (points-continued m k (prev + v) 1 rest t))))
 
 -- a list
-pub list-continued : (least m : ℕ) (s t : List ℕ) → Continued (Longer t) (pointList least m s) (pointList least m (s ++ t))
+pub list-continued : (m : ℕ) (s t : List ℕ) → Continued (Longer t) (pointList m s) (pointList m (s ++ t))
 unfolding pointList
-list-continued least m s t = continued-draw (Longer t) t _ (varint s) (varint (s ++ t)) (varint-continued s t) (λ count rest.
-    continued-after (Longer t) (leb count m) Range _ _ (omega arith) (omega arith)
-    (continued-after (Longer t) (leb least count) EmptySet _ _ (omega arith) (omega arith) (points-continued m count 0 0 rest t)))
+list-continued m s t = continued-draw (Longer t) t _ (varint s) (varint (s ++ t)) (varint-continued s t) (λ count rest.
+    continued-after (Longer t) (leb count m) Range _ _ (omega arith) (omega arith) (points-continued m count 0 0 rest t))

@@ -8,14 +8,14 @@ use native.Mathlib.Omega.{arith}
 use lib.Dec.{ltb, leb}
 use lib.ListN.{length}
 use borrow.Author.Tests.{ltb-true, leb-true}
-use Rattle.refusal.specs.declared.Refusal.the-variants.{Range, EmptySet}
+use Rattle.refusal.specs.declared.Refusal.the-variants.{Range}
 use Rattle.refusal.specs.Outcome.{accepted, _otherwise_}
 use Rattle.refusal.proofs.Outcomes.{check-passed}
 use Rattle.varint.specs.Drawn.{_leaving_}
 use Rattle.varint.specs.Varint.{varint, encodeVarint, Bytes}
 use Rattle.varint.proofs.Draws.{draw-accepted}
 use Rattle.varint.proofs.Varints.{Spells, spells-both, varint-decoded}
-use Rattle.point_list.specs.PointList.{before, pointsFrom, pointList, RisingFrom, differences, encodeList}
+use Rattle.point_list.specs.PointList.{pointsFrom, pointList, RisingFrom, differences, encodeList}
 use Rattle.point_list.proofs.PointsDrawn.{before-accepted}
 
 -- one point before others
@@ -45,14 +45,13 @@ points-decoded m (suc k) prev least s h e =
     (one-more m k prev least v s next qs _ spelled (leb-true least v least-ok) (ltb-true (prev + v) m below-ok)
     (points-decoded m k (prev + v) 1 next (spelled .bytes) later))
 
--- a list of at least `least` points
-pub list-decoded : (least m : ℕ) (s : List ℕ) {ps rest : List ℕ} → Bytes s → pointList least m s ≡ accepted (ps leaving rest)
-    → Spells s (encodeList ps) rest × (least ≤ length ps) × RisingFrom 0 m ps
+-- a list
+pub list-decoded : (m : ℕ) (s : List ℕ) {ps rest : List ℕ} → Bytes s → pointList m s ≡ accepted (ps leaving rest)
+    → Spells s (encodeList ps) rest × RisingFrom 0 m ps
 unfolding pointList encodeList
-list-decoded least m s h e =
+list-decoded m s h e =
     let (count, next, number, rest-of) = draw-accepted (varint s) _ e in
-    let (_, enough) = check-passed (leb count m) Range (leb least count otherwise EmptySet ∷ []) _ _ rest-of in
-    let (enough-ok, points) = check-passed (leb least count) EmptySet [] _ _ enough in
+    let (_, points) = check-passed (leb count m) Range [] _ _ rest-of in
     let (spelled, _) = varint-decoded s h number in
     let (others, long, rising) = points-decoded m count 0 0 next (spelled .bytes) points in
-    rw long (spells-both spelled others, leb-true least count enough-ok, rising)
+    rw long (spells-both spelled others, rising)

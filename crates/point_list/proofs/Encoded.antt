@@ -30,13 +30,12 @@ pub rising-short : (low m : ℕ) (ps : List ℕ) → low ≤ m → RisingFrom lo
 rising-short low m [] h r = omega arith
 rising-short low m (p ∷ ps) h r = omega (arith, rising-short (p + 1) m ps (omega arith) (r .2))
 
--- a list of at least `least` points
-pub list-encoded : (least m : ℕ) → m < 16384 → (ps rest : List ℕ) → least ≤ length ps → RisingFrom 0 m ps
-    → pointList least m (encodeList ps ++ rest) ≡ accepted (ps leaving rest)
+-- a list
+pub list-encoded : (m : ℕ) → m < 16384 → (ps rest : List ℕ) → RisingFrom 0 m ps → pointList m (encodeList ps ++ rest) ≡ accepted (ps leaving rest)
 unfolding pointList encodeList
-list-encoded least m b ps rest l r =
+list-encoded m b ps rest r =
     let short : 0 + length ps ≤ m = rising-short 0 m ps (omega arith) r in
-    rw (append-assoc, varint-encoded (length ps) (differences 0 ps ++ rest) (omega arith), le-leb (length ps) m (omega arith), le-leb least (length ps) l)
+    rw (append-assoc, varint-encoded (length ps) (differences 0 ps ++ rest) (omega arith), le-leb (length ps) m (omega arith))
     (points-encoded m (omega arith) ps rest 0 0 r)
 
 -- the differences of rising points are bytes

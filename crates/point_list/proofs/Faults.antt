@@ -9,7 +9,7 @@ use Prim.Native.Nat.{ℕ, zero, suc, _+_, _<_}
 use native.Mathlib.Omega.{arith}
 use lib.Dec.{ltb, leb}
 use borrow.Author.Tests.{ltb-true, ltb-false, leb-true, leb-false, lt-ltb, le-ltb, lt-leb, le-leb}
-use Rattle.refusal.specs.declared.Refusal.the-variants.{Range, EmptySet}
+use Rattle.refusal.specs.declared.Refusal.the-variants.{Range}
 use Rattle.refusal.specs.Outcome.{refused, _otherwise_, after}
 use Rattle.refusal.proofs.Outcomes.{not-both}
 use Rattle.varint.specs.Drawn.{Drawn}
@@ -18,7 +18,7 @@ use Rattle.varint.proofs.Draws.{draw-refused, after-refused}
 use Rattle.varint.proofs.Varints.{varint-encoded, varint-decoded}
 use Rattle.varint.proofs.NumberFaults.{number-fault, fault-number}
 use Rattle.point_list.specs.PointList.{pointsFrom, pointList}
-use Rattle.point_list.specs.Fault.{PointsFault, no-point, bad-point, later-point, ListFault, no-count, count-over, count-under, point-fault}
+use Rattle.point_list.specs.Fault.{PointsFault, no-point, bad-point, later-point, ListFault, no-count, count-over, point-fault}
 use Rattle.point_list.proofs.PointsDrawn.{before-refused}
 
 -- points
@@ -37,17 +37,15 @@ points-fault m (suc left) prev least s {k} h e =
     (points-fault m left (prev + v) 1 rest (spelled .bytes) (before-refused (prev + v) _ e₃))))))
 
 -- a list
-pub list-fault : (least m : ℕ) (s : List ℕ) {k : ℕ} → Bytes s → pointList least m s ≡ refused k → ListFault least m s k
+pub list-fault : (m : ℕ) (s : List ℕ) {k : ℕ} → Bytes s → pointList m s ≡ refused k → ListFault m s k
 unfolding pointList
-list-fault least m s {k} h e =
-    draw-refused (ListFault least m s k) (varint s) _ e (λ q. no-count s k (number-fault s q)) (λ c rest number e₁.
+list-fault m s {k} h e =
+    draw-refused (ListFault m s k) (varint s) _ e (λ q. no-count s k (number-fault s q)) (λ c rest number e₁.
     let (spelled, small) = varint-decoded s h number in
     rw (spelled .same)
-    (after-refused (ListFault least m (encodeVarint c ++ rest) k) (leb c m) Range _ e₁
+    (after-refused (ListFault m (encodeVarint c ++ rest) k) (leb c m) Range _ e₁
     (λ f q. rw (← q) (count-over c rest small (leb-false c m f))) (λ l e₂.
-    after-refused (ListFault least m (encodeVarint c ++ rest) k) (leb least c) EmptySet _ e₂
-    (λ f q. rw (← q) (count-under c rest (leb-true c m l) (leb-false least c f))) (λ b e₃.
-    point-fault c rest k (leb-true c m l) (leb-true least c b) (points-fault m c 0 0 rest (spelled .bytes) e₃)))))
+    point-fault c rest k (leb-true c m l) (points-fault m c 0 0 rest (spelled .bytes) e₂))))
 
 -- of points
 fault-points : {m left prev least k : ℕ} {s : List ℕ} → m < 16384 → PointsFault m left prev least s k → pointsFrom m left prev least s ≡ refused k
@@ -63,9 +61,8 @@ fault-points {m} b (later-point left prev least v s k l u f) =
     rw (varint-encoded v s (omega arith), le-leb least v l, lt-ltb (prev + v) m u, fault-points b f)
 
 -- of a list
-pub fault-list : {least m k : ℕ} {s : List ℕ} → m < 16384 → ListFault least m s k → pointList least m s ≡ refused k
+pub fault-list : {m k : ℕ} {s : List ℕ} → m < 16384 → ListFault m s k → pointList m s ≡ refused k
 unfolding pointList
 fault-list b (no-count s k f) = rw (fault-number f)
-fault-list {least} {m} b (count-over c s small l) = rw (varint-encoded c s small, lt-leb c m l)
-fault-list {least} {m} b (count-under c s l u) = rw (varint-encoded c s (omega arith), le-leb c m l, lt-leb least c u)
-fault-list {least} {m} b (point-fault c s k l u f) = rw (varint-encoded c s (omega arith), le-leb c m l, le-leb least c u, fault-points b f)
+fault-list {m} b (count-over c s small l) = rw (varint-encoded c s small, lt-leb c m l)
+fault-list {m} b (point-fault c s k l f) = rw (varint-encoded c s (omega arith), le-leb c m l, fault-points b f)

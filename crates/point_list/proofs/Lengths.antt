@@ -15,7 +15,7 @@ use Rattle.varint.specs.Varint.{encodeVarint}
 use Rattle.varint.proofs.Varints.{varint-length}
 use Rattle.varint.proofs.NumberFaults.{number-cut}
 use Rattle.point_list.specs.PointList.{RisingFrom, differences, encodeList}
-use Rattle.point_list.specs.Fault.{PointsFault, no-point, bad-point, later-point, ListFault, no-count, count-over, count-under, point-fault}
+use Rattle.point_list.specs.Fault.{PointsFault, no-point, bad-point, later-point, ListFault, no-count, count-over, point-fault}
 use Rattle.point_list.proofs.Encoded.{rising-short}
 
 -- points have at most two each
@@ -42,8 +42,7 @@ points-cut (bad-point left prev least v s small l) e = absurd (omega arith)
 points-cut (later-point left prev least v s k l u f) e = rw (length-append (encodeVarint v) s) (omega (arith, varint-length v, points-cut f e))
 
 -- a list that ends too early has no more bytes than its count and as many points as there are
-pub list-cut : {least m k : ℕ} {s : List ℕ} → ListFault least m s k → k ≡ 2 → length s ≤ 2 + 2 * m
+pub list-cut : {m k : ℕ} {s : List ℕ} → ListFault m s k → k ≡ 2 → length s ≤ 2 + 2 * m
 list-cut (no-count s k f) e = omega (arith, number-cut f e)
 list-cut (count-over c s small l) e = absurd (omega arith)
-list-cut (count-under c s l u) e = absurd (omega arith)
-list-cut (point-fault c s k l u f) e = rw (length-append (encodeVarint c) s) (omega (arith, varint-length c, points-cut f e))
+list-cut (point-fault c s k l f) e = rw (length-append (encodeVarint c) s) (omega (arith, varint-length c, points-cut f e))

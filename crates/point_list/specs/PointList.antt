@@ -3,8 +3,8 @@
 --   before p o                    a point before the points that the outcome o draws
 --   pointBy m prev least o f      a point below m, prev and the difference that the outcome o draws, and then the points of f
 --   pointsFrom m k prev least s   k points below m from the bytes s: the next is prev and a difference of at least `least`
---   listBy least m o              a list of at least `least` points below m, whose count is what the outcome o draws
---   pointList least m s           the list that the bytes s begin with: refused by 2, 3, 5 or 6
+--   listBy m o                    a list of points below m, whose count is what the outcome o draws
+--   pointList m s                 the list that the bytes s begin with: refused by 2, 3 or 5
 --   RisingFrom low m ps           the points ps rise, from low on, and are below m
 --   differences prev ps           the bytes of the points ps, each as its difference from the one before, the first from prev
 --   encodeList ps                 the bytes of the list ps
@@ -13,8 +13,8 @@ use mathlib.Core.List.{List, [], _∷_, _++_}
 use Prim.Native.Nat.{ℕ, zero, suc, _+_, _-_, _≤_, _<_}
 use lib.Dec.{leb, ltb}
 use lib.ListN.{length}
-use Rattle.refusal.specs.declared.Refusal.the-variants.{Range, EmptySet}
-use Rattle.refusal.specs.Outcome.{Outcome, refused, accepted, _otherwise_, checked}
+use Rattle.refusal.specs.declared.Refusal.the-variants.{Range}
+use Rattle.refusal.specs.Outcome.{Outcome, refused, accepted, _otherwise_, checked, after}
 use Rattle.cube.specs.Mask.{withOnes}
 use Rattle.varint.specs.Drawn.{Drawn, _leaving_, draw}
 use Rattle.varint.specs.Varint.{varint, encodeVarint}
@@ -35,15 +35,13 @@ unfoldable pub pointsFrom : ℕ → ℕ → ℕ → ℕ → List ℕ → Outcome
 pointsFrom m zero prev least s = accepted ([] leaving s)
 pointsFrom m (suc k) prev least s = pointBy m prev least (varint s) (λ p rest. pointsFrom m k p 1 rest)
 
--- a list of points below m: its count is at most m and at least `least`, and its first point is any
-abbrev pub listBy : ℕ → ℕ → Outcome (Drawn ℕ) → Outcome (Drawn (List ℕ))
-listBy least m o =
-    draw o (λ count rest.
-    checked (leb count m otherwise Range ∷ leb least count otherwise EmptySet ∷ []) (pointsFrom m count 0 0 rest))
+-- a list of points below m: its count is at most m, and its first point is any
+abbrev pub listBy : ℕ → Outcome (Drawn ℕ) → Outcome (Drawn (List ℕ))
+listBy m o = draw o (λ count rest. after (leb count m otherwise Range) (pointsFrom m count 0 0 rest))
 
 -- the count is a number, and the points follow it
-unfoldable pub pointList : ℕ → ℕ → List ℕ → Outcome (Drawn (List ℕ))
-pointList least m s = listBy least m (varint s)
+unfoldable pub pointList : ℕ → List ℕ → Outcome (Drawn (List ℕ))
+pointList m s = listBy m (varint s)
 
 -- the first point is low or more, each later one is above the one before, and all are below m
 abbrev pub RisingFrom : ℕ → ℕ → List ℕ → Type 0

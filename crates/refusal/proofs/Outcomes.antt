@@ -1,19 +1,45 @@
 -- What an acceptance and a refusal show.
 --   not-both          an outcome is not both refused and accepted
+--   number-not-6      6 is the number of no refusal
+--   checked-not-6     so checks never refuse by it
 --   check-passed      an outcome that accepts after checks has passed the first of them
 --   mapped-refused    an outcome that refuses with other values refuses
 --   mapped-accepted   one that accepts with other values accepts what they are made of
 use mathlib.Core.Path.{_≡_, refl, sym}
+use mathlib.Core.Logic.{_≢_}
 use mathlib.Core.Bool.{Bool, true, false}
-use mathlib.Core.List.{List, _∷_}
+use mathlib.Core.List.{List, [], _∷_}
 use Prim.Native.Nat.{ℕ}
 use native.Mathlib.Omega.{arith}
 use Rattle.refusal.specs.Outcome.{Outcome, refused, accepted, Check, _otherwise_, checked, mapped}
+use Rattle.refusal.specs.Refusal.{numberOf}
 use Rattle.refusal.specs.declared.Refusal.{Refusal}
+use Rattle.refusal.specs.declared.Refusal.the-variants.{Length, FileEnds, NumberForm, Taps, Range, Surplus, Bytes, ZeroPolynomial, Degree, Side, RanksDiffer, ShortOutput}
 
 -- an outcome is not both refused and accepted
 pub not-both : {A : Type 0} {k : ℕ} {a : A} → refused k ≡ accepted a → ⊥
 not-both e = let z : _≡_ {A = ℕ} 0 1 = cc in omega arith
+
+-- 6 is the number of no refusal
+pub number-not-6 : (x : Refusal) → numberOf x ≢ 6
+number-not-6 Length e = omega arith
+number-not-6 FileEnds e = omega arith
+number-not-6 NumberForm e = omega arith
+number-not-6 Taps e = omega arith
+number-not-6 Range e = omega arith
+number-not-6 Surplus e = omega arith
+number-not-6 Bytes e = omega arith
+number-not-6 ZeroPolynomial e = omega arith
+number-not-6 Degree e = omega arith
+number-not-6 Side e = omega arith
+number-not-6 RanksDiffer e = omega arith
+number-not-6 ShortOutput e = omega arith
+
+-- so checks never refuse by it
+pub checked-not-6 : {A : Type 0} (cs : List Check) (o : Outcome A) → o ≢ refused 6 → checked cs o ≢ refused 6
+checked-not-6 [] o h e = h e
+checked-not-6 (true otherwise r ∷ cs) o h e = checked-not-6 cs o h e
+checked-not-6 (false otherwise r ∷ cs) o h e = number-not-6 r (cc e)
 
 -- an outcome that accepts after checks has passed the first of them
 pub check-passed : {A : Type 0} (t : Bool) (r : Refusal) (cs : List Check) (o : Outcome A) (a : A)

@@ -2,7 +2,7 @@
 --   numberOf r   the number of the refusal r
 use Prim.Native.Nat.{ℕ}
 use Rattle.refusal.specs.declared.Refusal.{Refusal}
-use Rattle.refusal.specs.declared.Refusal.the-variants.{Length, FileEnds, NumberForm, Taps, Range, EmptySet, Surplus, Bytes, ZeroPolynomial, Degree, Side, RanksDiffer, ShortOutput}
+use Rattle.refusal.specs.declared.Refusal.the-variants.{Length, FileEnds, NumberForm, Taps, Range, Surplus, Bytes, ZeroPolynomial, Degree, Side, RanksDiffer, ShortOutput}
 
 -- the number of a refusal
 abbrev pub numberOf : Refusal → ℕ
@@ -11,7 +11,6 @@ numberOf FileEnds = 2
 numberOf NumberForm = 3
 numberOf Taps = 4
 numberOf Range = 5
-numberOf EmptySet = 6
 numberOf Surplus = 7
 numberOf Bytes = 8
 numberOf ZeroPolynomial = 9

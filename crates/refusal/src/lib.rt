@@ -15,8 +15,6 @@ pub enum Refusal {
     Taps,
     // 5: a count over N, a difference of 0, or a point of N or more.
     Range,
-    // 6: the set has no point.
-    EmptySet,
     // 7: bytes remain after the file's last number.
     Surplus,
     // 8: a byte breaks the 0/1/0 rule.
@@ -43,7 +41,6 @@ pub fn number(r: Refusal) -> u8
         Refusal::NumberForm => 3,
         Refusal::Taps => 4,
         Refusal::Range => 5,
-        Refusal::EmptySet => 6,
         Refusal::Surplus => 7,
         Refusal::Bytes => 8,
         Refusal::ZeroPolynomial => 9,

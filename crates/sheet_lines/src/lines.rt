@@ -1,20 +1,22 @@
 // The lines of the sheet. They are `pub` for sheet_text alone.
 ghost use mathlib.Core.Path.{_≡_};
-ghost use mathlib.Core.Option.{some};
+ghost use mathlib.Core.List.{[], _++_};
+ghost use mathlib.Core.Option.{none};
 ghost use Prim.Native.Nat.{_+_, _≤_, _<_};
 ghost use lib.ListN.{length};
 ghost use Rattle.cube.specs.NumberLists.{below, select};
 ghost use Rattle.cube.specs.Mask.{member, points};
 ghost use Rattle.order.specs.BuiltIn.{graded};
+ghost use Rattle.filter.specs.Sides.{pair};
 ghost use Rattle.filter.specs.Part.{part};
 ghost use Rattle.filter.specs.Outside.{outside};
 ghost use Rattle.immunity.specs.FirstDegree.{degreeOf, degreesOf};
 ghost use Rattle.immunity.specs.Certificate.{bitOf};
 ghost use Rattle.buffer.specs.Appends.{Appends};
 ghost use Rattle.text.specs.Room.{fieldRoom};
-ghost use Rattle.text.specs.Text.{fields};
+ghost use Rattle.text.specs.Text.{newline, labelled, fields};
 ghost use Rattle.sheet_lines.specs.Room.{chosenRoom, refusedLineRoom, firstLineRoom, rankLineRoom, rankLinesRoom, degreeLineRoom, sidesLineRoom, sumLineRoom, sideSumsRoom, additionsLineRoom};
-ghost use Rattle.sheet_lines.specs.Lines.{refusedLine, firstLine, rankLine, rankLines, degreeLine, degreeField, sidesLine, sumLine, sumLines, additionsLine};
+ghost use Rattle.sheet_lines.specs.Lines.{refusedLine, firstLine, rankLine, rankLines, witnessFields, degreeLine, degreeField, sidesLine, sumLine, sumLines, additionsLine};
 use buffer::append;
 use cube::POINTS;
 use cube::Point;
@@ -39,14 +41,15 @@ pub fn refused_line(text: &mut [u8], at: usize, number: u8) -> usize
     end_line(text, end)
 }
 
-// The number of taps, of points, and the mark.
-pub fn first_line(text: &mut [u8], at: usize, n: usize, count: usize, mark: usize) -> usize
+// The number of taps, of points, and the mark, or `none`.
+pub fn first_line(text: &mut [u8], at: usize, n: usize, count: usize, mark: FirstDegree) -> usize
     requires { ⌜ at + firstLineRoom ≤ length (now text) ⌝ }
-    ensures { λ r. ⌜ Appends (firstLine n count (some mark)) (now (text .entry)) (now (text .exit)) at r × (r ≤ at + firstLineRoom) ⌝ }
+    ensures { λ r. ⌜ Appends (firstLine n count (degreeOf mark)) (now (text .entry)) (now (text .exit)) at r × (r ≤ at + firstLineRoom) ⌝ }
 {
     let points = append_labelled(text, at, b"n", n as u64);
-    let of_mark = append_labelled(text, points, b" points", count as u64);
-    let end = append_labelled(text, of_mark, b" mark", mark as u64);
+    let label = append_labelled(text, points, b" points", count as u64);
+    let of_mark = append(text, label, b" mark");
+    let end = degree_field(text, of_mark, mark);
     end_line(text, end)
 }
 
@@ -97,7 +100,7 @@ fn witness_fields(text: &mut [u8], at: usize, witness: &[u8]) -> usize
 // The reported degree, the side, and that side's witness.
 pub fn degree_line(text: &mut [u8], at: usize, k: usize, side: u8, witness: &[u8]) -> usize
     requires { ⌜ (at + degreeLineRoom + fieldRoom ≤ length (now text)) × (length (now witness) ≡ 512) ⌝ }
-    ensures { λ r. ⌜ Appends (degreeLine k side (now (witness .entry))) (now (text .entry)) (now (text .exit)) at r × (r ≤ at + degreeLineRoom) ⌝ }
+    ensures { λ r. ⌜ Appends (labelled "degree" k ++ witnessFields side (now (witness .entry)) ++ newline) (now (text .entry)) (now (text .exit)) at r × (r ≤ at + degreeLineRoom) ⌝ }
 {
     let chosen = append_heading(
         text,
@@ -109,6 +112,15 @@ pub fn degree_line(text: &mut [u8], at: usize, k: usize, side: u8, witness: &[u8
         b" witness",
     );
     let end = witness_fields(text, chosen, witness);
+    end_line(text, end)
+}
+
+// No degree: `degree none` alone.
+pub fn no_degree_line(text: &mut [u8], at: usize) -> usize
+    requires { ⌜ at + degreeLineRoom ≤ length (now text) ⌝ }
+    ensures { λ r. ⌜ Appends (degreeLine none none (pair [] [])) (now (text .entry)) (now (text .exit)) at r × (r ≤ at + degreeLineRoom) ⌝ }
+{
+    let end = append(text, at, b"degree none");
     end_line(text, end)
 }
 

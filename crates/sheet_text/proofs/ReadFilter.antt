@@ -26,7 +26,7 @@ use Rattle.immunity.specs.Judgement.{judged}
 use Rattle.judge.specs.Judge.{JudgeAccepts}
 use Rattle.judge.proofs.Passed.{judge-accepts}
 use Rattle.filter_file.proofs.Decoded.{contents-decoded}
-use Rattle.filter_file.proofs.ValidFilter.{valid-filter, valid-some}
+use Rattle.filter_file.proofs.ValidFilter.{valid-filter}
 use Rattle.sheet_lines.specs.Lines.{refusedLine}
 use Rattle.sheet_text.specs.Sheet.{filterSheet, sheetOf, sheet}
 
@@ -41,7 +41,7 @@ read-judge : (file : List ℕ) (c : Contents) → ((i : ℕ) → i < length file
 unfolding readOutcome
 read-judge file c b e =
     let valid = contents-decoded file (bytes-at file b) e .1 in
-    judge-accepts graded (c .n) (mask (lists (c .set))) (mask (lists (c .table))) (valid-filter valid) (valid-some valid)
+    judge-accepts graded (c .n) (mask (lists (c .set))) (mask (lists (c .table))) (valid-filter valid)
 
 -- the outcome of Read accepts n, and leaves the set s and the table f
 pub record ReadAs (o : Outcome Contents) (n : ℕ) (s f : List ℕ) : Type 0 where

@@ -1,33 +1,39 @@
 -- What is accepted while a sheet is made.
 --   judge-found     what Judge answers of a filter that it accepts is its judgement
+--   judge-none      also where it answers that there is no point,
+--   points-none     which is so then
+--   no-point-lines  the lines of its sheet then
 --   judge-refuses   it is no refusal
 --   sums-accepted   Certify accepts each side at each degree below the reported one
 --   certified-is    and writes the certificate
 use mathlib.Core.Path.{_≡_, sym, ap, ap₂, _∙_}
-use mathlib.Core.Bool.{false}
-use mathlib.Core.List.{List}
-use mathlib.Core.Option.{some}
+use mathlib.Core.List.{List, [], _++_, append-nil}
+use mathlib.Core.Option.{none, some}
 use Prim.Native.Nat.{ℕ, _≤_, _<_}
 use native.Mathlib.Omega.{arith}
+use lib.ListN.{length}
 use Rattle.refusal.specs.Outcome.{Outcome, accepted, leftBy}
 use Rattle.refusal.specs.declared.Refusal.{Refusal}
-use Rattle.cube.specs.NumberLists.{isEmpty}
-use Rattle.cube.specs.Mask.{points}
 use Rattle.order.specs.BuiltIn.{graded}
 use Rattle.order.proofs.BuiltIn.{graded-is-graded}
-use Rattle.filter.specs.Sides.{Sides}
-use Rattle.filter.specs.Filter.{Filter}
-use Rattle.immunity.specs.Judgement.{reported, judged}
+use Rattle.cube.specs.Mask.{points}
+use Rattle.filter.specs.Sides.{Sides, pair}
+use Rattle.filter.proofs.Filters.{few-taps}
+use Rattle.immunity.specs.Judgement.{Judgement, judged}
+use Rattle.immunity.specs.declared.Ranks.{Ranks}
 use Rattle.immunity.specs.Certificate.{certificate}
-use Rattle.immunity.proofs.Reported.{FirstDiffers, filter-reports}
+use Rattle.immunity.proofs.Reported.{reported-first}
+use Rattle.immunity.proofs.NoPoint.{none-empty}
 use Rattle.judge.specs.declared.JudgeAnswer.{JudgeAnswer}
 use Rattle.judge.specs.declared.Report.{Report}
-use Rattle.judge.specs.declared.Finding.the-variants.{Refused, Judged}
-use Rattle.judge.specs.Judge.{judgeOutcome, judgementOf, found, JudgeContract, JudgeAccepts}
+use Rattle.judge.specs.declared.Finding.the-variants.{Refused, NoPoint, Judged}
+use Rattle.judge.specs.Judge.{judgeOutcome, judgementOf, noPointJudgement, found, JudgeContract, JudgeAccepts}
 use Rattle.judge.proofs.Passed.{judge-accepted}
 use Rattle.certify.specs.declared.CertifyAnswer.{CertifyAnswer}
 use Rattle.certify.specs.Certify.{certifyOutcome, CertifyContract, CertifyAccepts}
 use Rattle.certify.proofs.Compared.{certify-accepts}
+use Rattle.sheet_lines.specs.Lines.{firstLine, rankLines, degreeLine, sidesLine, additionsLine}
+use Rattle.sheet_text.specs.Sheet.{judgementSheet}
 
 -- values that are accepted
 value-of : {A : Type 0} (x y : A) → _≡_ {A = Outcome A} (accepted x) (accepted y) → x ≡ y
@@ -46,6 +52,15 @@ module _ (n : ℕ) (s f : List ℕ) (a : JudgeAccepts graded n s f (judged grade
           → judgementOf x (r .ranks) w′ kept′ ≡ judged graded n s f
       judge-found x e = value-of _ (judged graded n s f) (ap (λ y. found y (r .ranks) w′ kept′) (sym e) ∙ answered)
 
+      -- and where the set has no point
+      pub judge-none : r .finding ≡ NoPoint → noPointJudgement (r .ranks) w′ kept′ ≡ judged graded n s f
+      judge-none e = value-of _ (judged graded n s f) (ap (λ y. found y (r .ranks) w′ kept′) (sym e) ∙ answered)
+
+      -- which is so
+      pub points-none : r .finding ≡ NoPoint → points s ≡ []
+      unfolding judged
+      points-none e = none-empty graded-is-graded n s f (judge-accepted graded n s f (judged graded n s f) a .0) (sym (ap (λ (j : Judgement). j .degree) (judge-none e)))
+
       -- no refusal
       pub judge-refuses : (x : Refusal) → r .finding ≡ Refused x → ⊥
       judge-refuses x e =
@@ -57,18 +72,18 @@ module _ (n : ℕ) (s f : List ℕ) (a : JudgeAccepts graded n s f (judged grade
   pub sums-accepted : (k : ℕ) → judged graded n s f .degree ≡ some k → (d side : ℕ) → d < k → side ≤ 1
       → CertifyAccepts graded n s f side d (certificate graded n s f side d)
   unfolding judged
-  sums-accepted k e d side l m = go (filter-reports graded-is-graded n s f filter has)
-    where
-      filter : Filter n s f
-      filter = judge-accepted graded n s f (judged graded n s f) a .0
+  sums-accepted k e d side l m =
+      let filter = judge-accepted graded n s f (judged graded n s f) a .0 in
+      let r = reported-first graded-is-graded (few-taps n s f filter) s f k e in
+      certify-accepts n s f side d graded filter m (omega (arith, r .within)) (r .before side d m l)
 
-      has : isEmpty (points s) ≡ false
-      has = judge-accepted graded n s f (judged graded n s f) a .1
-
-      go : (j : ℕ) × (reported graded n s f ≡ some j) × FirstDiffers graded n s f j → CertifyAccepts graded n s f side d (certificate graded n s f side d)
-      go (j, is, r) =
-          let same : k ≡ j = cc (sym e ∙ is) in
-          certify-accepts n s f side d graded filter has m (omega (arith, r .within)) (r .before side d m (omega arith))
+-- the lines of the sheet of a set without a point
+pub no-point-lines : (n : ℕ) (s f : List ℕ) → points s ≡ [] → (ranks : List Ranks) (w : Sides (List ℕ)) (kept : List ℕ)
+    → firstLine n 0 none ++ rankLines n ranks ++ degreeLine none none (pair [] []) ++ sidesLine (pair none none) ++ additionsLine 0 ≡ judgementSheet n s f (noPointJudgement ranks w kept)
+unfolding judgementSheet
+no-point-lines n s f empty ranks w kept =
+    ap (λ x. x ++ additionsLine 0) (sym (append-nil (firstLine n 0 none ++ rankLines n ranks ++ degreeLine none none (pair [] []) ++ sidesLine (pair none none))))
+    ∙ sym (ap (λ (ps : List ℕ). firstLine n (length ps) none ++ rankLines n ranks ++ degreeLine none none w ++ sidesLine (pair none none) ++ [] ++ additionsLine 0) empty)
 
 -- and writes the certificate
 pub certified-is : (n : ℕ) (s f : List ℕ) (side d : ℕ) → CertifyAccepts graded n s f side d (certificate graded n s f side d) → {i j : ℕ} → i ≡ 8192 → j ≡ 4096

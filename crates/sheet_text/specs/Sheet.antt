@@ -1,7 +1,6 @@
 -- The printed sheet: docs/SPECIFICATION.md, 'Sheet'.
 --   sideSums n s f d side   the sums of the certificate of a side at degree d, points rising
---   sums n s f k            those of degree k - 1, side 1 then 0; none if k is 0
---   reportLines n s f j k   the degree line, the line of both sides and the sums for the reported degree
+--   sums n s f k            those of degree k - 1 for the reported degree k, side 1 then 0; none if k is 0 or there is no degree
 --   judgementSheet n s f j  the sheet of a judgement
 --   filterSheet n s f       the sheet of a filter
 --   sheetOf o               the sheet for what Read answers
@@ -18,7 +17,6 @@ use Rattle.cube.specs.Mask.{points, mask}
 use Rattle.order.specs.BuiltIn.{graded}
 use Rattle.filter_file.specs.File.{Contents}
 use Rattle.filter_file.specs.Read.{readOutcome}
-use Rattle.filter.specs.Sides.{ofSide}
 use Rattle.filter.specs.Part.{part}
 use Rattle.filter.specs.Outside.{outside}
 use Rattle.immunity.specs.Judgement.{Judgement, judged}
@@ -30,20 +28,17 @@ use Rattle.sheet_lines.specs.Lines.{refusedLine, firstLine, rankLines, degreeLi
 abbrev pub sideSums : ℕ → List ℕ → List ℕ → ℕ → ℕ → Text
 sideSums n s f d side = sumLines side (certificate graded n s f side d) (outside (points s) (part side s f))
 
--- those of degree k - 1, side 1 then 0; none if k is 0
-abbrev pub sums : ℕ → List ℕ → List ℕ → ℕ → Text
-sums n s f zero = []
-sums n s f (suc d) = sideSums n s f d 1 ++ sideSums n s f d 0
-
--- the degree line, each side's own degree, and the sums for the reported degree
-abbrev pub reportLines : ℕ → List ℕ → List ℕ → Judgement → Option ℕ → Text
-reportLines n s f j none = []
-reportLines n s f j (some k) = degreeLine k (j .side) (ofSide (j .side) (j .witnesses)) ++ sidesLine (j .degrees) ++ sums n s f k
+-- those of degree k - 1, side 1 then 0; none if k is 0, and none without a degree
+abbrev pub sums : ℕ → List ℕ → List ℕ → Option ℕ → Text
+sums n s f none = []
+sums n s f (some zero) = []
+sums n s f (some (suc d)) = sideSums n s f d 1 ++ sideSums n s f d 0
 
 -- the sheet of a judgement
 unfoldable pub judgementSheet : ℕ → List ℕ → List ℕ → Judgement → Text
 judgementSheet n s f j =
-    firstLine n (length (points s)) (j .mark) ++ rankLines n (j .ranks) ++ reportLines n s f j (j .degree) ++ additionsLine (j .additions)
+    firstLine n (length (points s)) (j .mark) ++ rankLines n (j .ranks) ++ degreeLine (j .degree) (j .side) (j .witnesses) ++ sidesLine (j .degrees)
+    ++ sums n s f (j .degree) ++ additionsLine (j .additions)
 
 -- the sheet of a filter
 abbrev pub filterSheet : ℕ → List ℕ → List ℕ → Text

@@ -1,18 +1,20 @@
 // The sheet of a file.
 ghost use mathlib.Core.Path.{_≡_};
+ghost use mathlib.Core.List.{[], _++_};
+ghost use mathlib.Core.Option.{none, some};
 ghost use Prim.Native.Nat.{ℕ, _+_, _≤_, _<_};
 ghost use lib.ListN.{length};
 ghost use Rattle.order.specs.BuiltIn.{graded};
 ghost use Rattle.io.specs.Counts.{Counts};
 ghost use Rattle.immunity.specs.Judgement.{judged};
 ghost use Rattle.immunity.specs.Certificate.{certificate as certificateOf};
-ghost use Rattle.filter.specs.Sides.{pair, ofSide};
+ghost use Rattle.filter.specs.Sides.{pair};
 ghost use Rattle.judge.specs.Judge.{JudgeAccepts};
 ghost use Rattle.certify.specs.Certify.{CertifyAccepts};
 ghost use Rattle.buffer.specs.Appends.{Appends};
 ghost use Rattle.text.specs.Room.{fieldRoom};
 ghost use Rattle.sheet_lines.specs.Room.{degreeLineRoom, sideSumsRoom, sumsRoom, textRoom};
-ghost use Rattle.sheet_lines.specs.Lines.{degreeLine};
+ghost use Rattle.sheet_lines.specs.Lines.{firstLine, rankLines, degreeLine, sidesLine, additionsLine};
 ghost use Rattle.sheet_text.specs.Sheet.{sideSums, sums, filterSheet, SheetContract};
 use certify::CERTIFICATE;
 use certify::certify;
@@ -20,6 +22,8 @@ use cube::POINTS;
 use cube::mask::count;
 use filter_file::read::ReadAnswer;
 use filter_file::read::read;
+use immunity::FirstDegree;
+use immunity::Ranks;
 use judge::Finding;
 use judge::judge;
 use packed::WORKSPACE;
@@ -27,6 +31,7 @@ use refusal::number;
 use sheet_lines::lines::additions_line;
 use sheet_lines::lines::degree_line;
 use sheet_lines::lines::first_line;
+use sheet_lines::lines::no_degree_line;
 use sheet_lines::lines::rank_lines;
 use sheet_lines::lines::refused_line;
 use sheet_lines::lines::sides_line;
@@ -69,8 +74,10 @@ fn filter_sheet(text: &mut [u8], n: usize, set: &[u8], table: &[u8]) -> usize
     let ranks = answer.ranks;
     match finding {
         Finding::Refused(x) => refused_line(text, 0, number(x)),
+        Finding::NoPoint => no_point_sheet(text, n, ranks),
         Finding::Judged(found) => {
-            let first = first_line(text, 0, n, count(set), found.mark);
+            let mark = FirstDegree::At(found.mark);
+            let first = first_line(text, 0, n, count(set), mark);
             let report = rank_lines(text, first, n, ranks);
             let sides = report_line(text, report, found.degree, found.side, &one, &zero);
             let of_one = found.one;
@@ -82,10 +89,22 @@ fn filter_sheet(text: &mut [u8], n: usize, set: &[u8], table: &[u8]) -> usize
     }
 }
 
+// The sheet of a set without a point, with these ranks.
+fn no_point_sheet(text: &mut [u8], n: usize, ranks: [Ranks; 10]) -> usize
+    requires { ⌜ (textRoom ≤ length (now text)) × (n ≤ 9) ⌝ }
+    ensures { λ r. ⌜ Appends (firstLine n 0 none ++ rankLines n ranks ++ degreeLine none none (pair [] []) ++ sidesLine (pair none none) ++ additionsLine 0) (now (text .entry)) (now (text .exit)) 0 r ⌝ }
+{
+    let first = first_line(text, 0, n, 0, FirstDegree::None);
+    let report = rank_lines(text, first, n, ranks);
+    let sides = no_degree_line(text, report);
+    let end = sides_line(text, sides, FirstDegree::None, FirstDegree::None);
+    additions_line(text, end, 0)
+}
+
 // The degree line, with the witness of the side.
 fn report_line(text: &mut [u8], at: usize, k: usize, side: u8, one: &[u8], zero: &[u8]) -> usize
     requires { ⌜ (at + degreeLineRoom + fieldRoom ≤ length (now text)) × (length (now one) ≡ 512) × (length (now zero) ≡ 512) ⌝ }
-    ensures { λ r. ⌜ Appends (degreeLine k side (ofSide side (pair (now (one .entry)) (now (zero .entry))))) (now (text .entry)) (now (text .exit)) at r × (r ≤ at + degreeLineRoom) ⌝ }
+    ensures { λ r. ⌜ Appends (degreeLine (some k) (some side) (pair (now (one .entry)) (now (zero .entry)))) (now (text .entry)) (now (text .exit)) at r × (r ≤ at + degreeLineRoom) ⌝ }
 {
     if side == 1 {
         return degree_line(text, at, k, side, one);
@@ -97,7 +116,7 @@ fn report_line(text: &mut [u8], at: usize, k: usize, side: u8, one: &[u8], zero:
 fn sum_sections(text: &mut [u8], at: usize, n: usize, set: &[u8], table: &[u8], k: usize) -> usize
     requires { ⌜ (at + sumsRoom + fieldRoom ≤ length (now text)) × (length (now set) ≡ 512) × (length (now table) ≡ 512)
         × ((d side : ℕ) → d < k → side ≤ 1 → CertifyAccepts graded n (now set) (now table) side d (certificateOf graded n (now set) (now table) side d)) ⌝ }
-    ensures { λ r. ⌜ Appends (sums n (now (set .entry)) (now (table .entry)) k) (now (text .entry)) (now (text .exit)) at r × (r ≤ at + sumsRoom) ⌝ }
+    ensures { λ r. ⌜ Appends (sums n (now (set .entry)) (now (table .entry)) (some k)) (now (text .entry)) (now (text .exit)) at r × (r ≤ at + sumsRoom) ⌝ }
 {
     if k == 0 {
         return at;

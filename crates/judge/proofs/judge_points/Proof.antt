@@ -79,7 +79,7 @@ part-mask-requires-2 : tie.Need-part-mask-requires-2
 part-mask-requires-2 c κs = let h = shown (start c) .filter in (h .set-long, h .table-long)
 
 fill-rows-requires : tie.Need-fill-rows-requires
-fill-rows-requires c κs = let s = start (c .before .before) in (shown s .workspace-long, s .pre .1, small s)
+fill-rows-requires c κs = let s = start (c .before .before) in (shown s .workspace-long, s .pre .2, small s)
 
 -- the set marks points of n taps
 marks-set : (s : tie.Start) → Marks (s .args .n) (s .args .set .now)
@@ -108,7 +108,7 @@ filled-ready f =
     let a = s .args in
     record {
       long = f .fill-rows .kept .0 ∙ shown s .workspace-long;
-      ordered = s .pre .1;
+      ordered = s .pre .2;
       small = small s;
       rows = rw (f .fill-rows .ensures) (filled-rows (exponents (a .order .now) (a .n)) (a .n) (small s) (unpacked (a .ws .now)) (length-rows 1024 (a .ws .now)));
     }
@@ -134,7 +134,7 @@ cast-column-count : tie.Need-cast-column-count
 cast-column-count c = let k = c .before in omega (arith, k .found-degrees .ensures .1 .1 .0, small (start-by (ranks-of k)))
 
 column-count-requires : tie.Need-column-count-requires
-column-count-requires c κs = let s = start-by (ranks-of (c .before)) in (s .pre .1, small s)
+column-count-requires c κs = let s = start-by (ranks-of (c .before)) in (s .pre .2, small s)
 
 mark-below-requires : tie.Need-mark-below-requires
 mark-below-requires c κs =
@@ -180,7 +180,7 @@ returns c =
     let a = s .args in
     let rows = r .all-ranks .result .kept in
     accepts (a .order .now) (a .set .now) (a .table .now) (a .n) (a .ws .now) (a .one .now) (a .zero .now) (a .kept .now) (s .pre .0) (e .clear .ensures ∙ ap zeros (kept w))
-    (judgement-found (s .pre .1) (shown s .filter) (shown s .some) (two-parts (masks-by r)) (r .all-ranks .ensures .0) (k .found-degrees .ensures .1 .1 .0) (k .found-degrees .ensures .1 .0)
+    (judgement-found (s .pre .2) (shown s .filter) (s .pre .1) (two-parts (masks-by r)) (r .all-ranks .ensures .0) (k .found-degrees .ensures .1 .1 .0) (k .found-degrees .ensures .1 .0)
     (c .report-found .ensures) (k .found-degrees .ensures .1 .1 .1) (k .found-degrees .ensures .0) (r .all-ranks .ensures .1 .0) (ap₂ pair (w .write-witnesses .ensures .0) (w .write-witnesses .ensures .1))
     (mask-reported (a .order .now) (a .n) (take rows (r .all-ranks .last .1 .1 .1 .1 .1 .1 .0)) (take rows (r .all-ranks .last .1 .1 .1 .1 .1 .1 .1 .0)) (points (a .set .now))
     (r .all-ranks .ensures .1 .1 .1 .1) (k .found-degrees .ensures .1 .1 .0) (columns-of m .column-count .ensures) (m .mark-below .ensures)))

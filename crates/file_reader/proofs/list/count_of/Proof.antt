@@ -1,11 +1,11 @@
--- Each return is the branch of `listBy` that the number drawn and the tests before it pick; a refusal leaves nothing else (refused-remaining).
+-- Each return is the branch of `listBy` that the number drawn and its test pick; a refusal leaves nothing else (refused-remaining).
 use borrow.Author.Needs.{needs}
 use mathlib.Core.Path.{_≡_, sym, _∙_}
 use Prim.Native.Nat.{ℕ, _≤_}
 use native.Mathlib.Omega.{arith}
 use borrow.Author.Tests.{le-leb, lt-leb}
 use lib.Pow.{pow-mono}
-use Rattle.refusal.specs.declared.Refusal.the-variants.{Range, EmptySet}
+use Rattle.refusal.specs.declared.Refusal.the-variants.{Range}
 use Rattle.cube.specs.Cube.{size}
 use Rattle.cube.proofs.Taps.{taps-range}
 use Rattle.file_reader.proofs.Decisions.{refused-remaining, refused-bounded}
@@ -38,26 +38,16 @@ returns c =
 
 returns-2 : tie.Need-returns-2
 returns-2 c =
-    let z = c .before .before .before in
-    let fits = le-leb (count z) (size (entry z .args .n)) (omega (arith, size-is z)) in
-    let under = lt-leb (entry z .args .least) (count z) (omega arith) in (
-      (λ b s. refused-remaining EmptySet (c .refused-list3 .result) b s (c .refused-list3 .ensures) ∙ sym (rw (z .before .before .drawn2 .given .1, fits, under))),
-      refused-bounded EmptySet (c .refused-list3 .result) (c .refused-list3 .ensures),
-    )
-
-returns-3 : tie.Need-returns-3
-returns-3 c =
     let d = c .before .before in (
       (λ b s. refused-remaining (d .drawn .given .0 .0) (c .refused-list .result) b s (c .refused-list .ensures) ∙ sym (rw (d .drawn .given .1))),
       refused-bounded (d .drawn .given .0 .0) (c .refused-list .result) (c .refused-list .ensures),
     )
 
-returns-4 : tie.Need-returns-4
-returns-4 c =
-    let z = c .before .before in
+returns-3 : tie.Need-returns-3
+returns-3 c =
+    let z = c .before in
     let fits = le-leb (count z) (size (entry z .args .n)) (omega (arith, size-is z)) in
-    let enough = le-leb (entry z .args .least) (count z) (omega arith) in
-    ((λ b s. rw (z .before .before .drawn2 .given .1, fits, enough, size-is z)), (omega arith, omega (arith, size-is z, pow-mono (few z))))
+    ((λ b s. rw (z .before .before .drawn2 .given .1, fits, size-is z)), (omega arith, omega (arith, size-is z, pow-mono (few z))))
 
 pub count-of-spec : {M : Type 1} → statement M
 count-of-spec =
@@ -69,7 +59,5 @@ count-of-spec =
     (λ c κs. search needs)
     (λ c κs. search needs)
     returns
-    (λ c κs. search needs)
     returns-2
-    returns-3
-    returns-4)
+    returns-3)

@@ -1,12 +1,10 @@
 -- The file is made in an array that has room for every file (file-fits, file-made); then only whether the output has room for it is tested.
 use borrow.Author.Needs.{needs}
 use mathlib.Core.Path.{_≡_, sym, ap, _∙_}
-use mathlib.Core.Bool.{false}
 use mathlib.Core.List.{List}
 use Prim.Native.Nat.{ℕ, _+_, _≤_}
 use native.Mathlib.Omega.{arith}
 use lib.ListN.{length, take}
-use Rattle.cube.specs.NumberLists.{isEmpty}
 use Rattle.cube.specs.Mask.{points}
 use Rattle.buffer.proofs.Appending.{appends-same}
 use Rattle.varint.specs.Varint.{encodeVarint}
@@ -20,31 +18,31 @@ use Rattle.filter_file.proofs.write.write_file.Statement.{statement}
 use Rattle.filter_file.proofs.write.write_file.Tie as tie
 
 -- what the checks have shown
-shown : (c : tie.Start) → Filter (c .args .n) (c .args .set .now) (c .args .table .now) × (isEmpty (points (c .args .set .now)) ≡ false)
+shown : (c : tie.Start) → Filter (c .args .n) (c .args .set .now) (c .args .table .now)
 shown c = write-passed _ _ _ (c .pre)
 
 -- there is room for each part
 fits : (c : tie.Start) →
     length (encodeVarint (c .args .n)) + length (encodeList (points (c .args .set .now))) + length (encodeList (points (c .args .table .now))) ≤ 2053
-fits c = let (h, some) = shown c in file-fits (c .args .n) (c .args .set .now) (c .args .table .now) h some
+fits c = file-fits (c .args .n) (c .args .set .now) (c .args .table .now) (shown c)
 
 append-varint-requires : tie.Need-append-varint-requires
 append-varint-requires c κs =
     let s = c .before .before .before .before in
-    (omega (arith, few-taps _ _ _ (shown s .0)), omega (arith, fits s))
+    (omega (arith, few-taps _ _ _ (shown s)), omega (arith, fits s))
 
 append-list-requires : tie.Need-append-list-requires
 append-list-requires c κs =
     let p = c .before .before in
     let s = p .before .before .before .before .before in
-    (omega (arith, shown s .0 .set-long), omega (arith, fits s, p .append-varint .ensures .upto))
+    (omega (arith, shown s .set-long), omega (arith, fits s, p .append-varint .ensures .upto))
 
 append-list-requires-2 : tie.Need-append-list-requires-2
 append-list-requires-2 c κs =
     let q = c .before .before in
     let p = q .before .before .before in
     let s = p .before .before .before .before .before in
-    (omega (arith, shown s .0 .table-long), omega (arith, fits s, p .append-varint .ensures .upto, q .append-list .ensures .upto))
+    (omega (arith, shown s .table-long), omega (arith, fits s, p .append-varint .ensures .upto, q .append-list .ensures .upto))
 
 -- the place of the entry
 abbrev start : tie.After-append-list2 → tie.Start

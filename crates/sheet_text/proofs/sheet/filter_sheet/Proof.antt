@@ -1,4 +1,4 @@
--- What Judge answers is the judgement (judge-found), never a refusal; the lines are written one behind the other (appends-then), each within its room.
+-- What Judge answers is the judgement (judge-found, judge-none), never a refusal; the lines are written one behind the other (appends-then), each within its room.
 use borrow.Author.Needs.{needs}
 use mathlib.Core.Path.{_≡_, sym, ap, _∙_}
 use mathlib.Core.Option.{some}
@@ -17,7 +17,7 @@ use Rattle.buffer.specs.Appends.{Appends}
 use Rattle.buffer.proofs.Appending.{appends-then, appends-same}
 use Rattle.sheet_lines.specs.Lines.{firstLine}
 use Rattle.sheet_text.specs.Sheet.{judgementSheet}
-use Rattle.sheet_text.proofs.SheetAccepts.{judge-found, judge-refuses, sums-accepted}
+use Rattle.sheet_text.proofs.SheetAccepts.{judge-found, judge-none, points-none, judge-refuses, sums-accepted, no-point-lines}
 use Rattle.sheet_text.proofs.sheet.filter_sheet.Statement.{statement}
 use Rattle.sheet_text.proofs.sheet.filter_sheet.Tie as tie
 
@@ -98,9 +98,27 @@ returns c =
     absurd (judge-refuses (s .args .n) (s .args .set .now) (s .args .table .now) (s .pre .1) (length-replicate {A = ℕ} 8192 0) (length-replicate {A = ℕ} 512 0) (length-replicate {A = ℕ} 512 0) (length-replicate {A = ℕ} 512 0)
     (j .judge .ensures) _ (g .finding .given .1))
 
+no-point-sheet-requires : tie.Need-no-point-sheet-requires
+no-point-sheet-requires c κs =
+    let s = c .before .before .before .before .before .before .before .before .before .before .before .before .before .before .before .before in
+    (s .pre .0, small s)
+
 returns-2 : tie.Need-returns-2
-unfolding judgementSheet
 returns-2 c =
+    let p = c .before .before in
+    let t = p .before .before in
+    let j = t .before .before .before .before .before .before .before in
+    let s = j .before .before .before .before .before .before .before .before in
+    let a = s .args in
+    let none = judge-none (a .n) (a .set .now) (a .table .now) (s .pre .1) (length-replicate {A = ℕ} 8192 0) (length-replicate {A = ℕ} 512 0) (length-replicate {A = ℕ} 512 0) (length-replicate {A = ℕ} 512 0)
+    (j .judge .ensures) (t .enum-told .given .1) in
+    let empty = points-none (a .n) (a .set .now) (a .table .now) (s .pre .1) (length-replicate {A = ℕ} 8192 0) (length-replicate {A = ℕ} 512 0) (length-replicate {A = ℕ} 512 0) (length-replicate {A = ℕ} 512 0)
+    (j .judge .ensures) (t .enum-told .given .1) in
+    appends-same (no-point-lines (a .n) (a .set .now) (a .table .now) empty _ _ _ ∙ ap (judgementSheet (a .n) (a .set .now) (a .table .now)) none) (p .no-point-sheet .ensures)
+
+returns-3 : tie.Need-returns-3
+unfolding judgementSheet
+returns-3 c =
     let z = c .before .before in
     let u = z .before .before .before .before in
     let i = u .before .before .before .before in
@@ -112,11 +130,10 @@ returns-2 c =
     let mark = some (g .finding2 .given .0 .0 .mark) in
     let first : Appends (firstLine (s .args .n) (length (points (s .args .set .now))) mark) (s .args .text .now) (f .first-line .last .0) 0 (f .first-line .result) =
     appends-same (ap (λ c. firstLine (s .args .n) c mark) (f .before .count .ensures .0)) (f .first-line .ensures .0) in
-    let inside : r .rank-lines .result ≤ length (r .rank-lines .last .0) =
-    omega (arith, r .rank-lines .ensures .1, r .rank-lines .kept .0, f .first-line .ensures .1, f .first-line .kept .0, s .pre .0) in
-    let report = appends-then inside (appends-then inside (d .report-line .ensures .0) (i .sides-line .ensures .0)) (u .sum-sections .ensures .0) in
     appends-same (ap (judgementSheet (s .args .n) (s .args .set .now) (s .args .table .now)) (judgement g))
-    (appends-then zero-le (appends-then zero-le (appends-then zero-le first (r .rank-lines .ensures .0)) report) (z .additions-line .ensures .0))
+    (appends-then zero-le
+    (appends-then zero-le (appends-then zero-le (appends-then zero-le (appends-then zero-le first (r .rank-lines .ensures .0)) (d .report-line .ensures .0)) (i .sides-line .ensures .0)) (u .sum-sections .ensures .0))
+    (z .additions-line .ensures .0))
 
 pub filter-sheet-spec : {M : Type 1} → statement M
 filter-sheet-spec =
@@ -131,6 +148,8 @@ filter-sheet-spec =
     (λ c κs. search needs)
     (λ c κs. search needs)
     (λ c. search needs)
+    no-point-sheet-requires
+    (λ c. search needs)
     (λ c κs. search needs)
     first-line-requires
     rank-lines-requires
@@ -143,4 +162,6 @@ filter-sheet-spec =
     (λ c. search needs)
     returns
     (λ c. search needs)
-    returns-2)
+    returns-2
+    (λ c. search needs)
+    returns-3)

@@ -2,6 +2,7 @@
 use borrow.Author.Needs.{needs}
 use mathlib.Core.Path.{_≡_, refl, sym, ap}
 use mathlib.Core.List.{List, _++_}
+use mathlib.Core.Option.{some}
 use Prim.Native.Nat.{ℕ, zero, suc, _-_}
 use native.Mathlib.Omega.{arith}
 use Rattle.buffer.proofs.Appending.{appends-none, appends-then, appends-same}
@@ -10,14 +11,14 @@ use Rattle.sheet_text.proofs.sheet.sum_sections.Statement.{statement}
 use Rattle.sheet_text.proofs.sheet.sum_sections.Tie as tie
 
 -- the sums of a degree that is not 0
-sums-both : (n : ℕ) (s f : List ℕ) (k : ℕ) → ¬ (k ≡ 0) → sideSums n s f (k - 1) 1 ++ sideSums n s f (k - 1) 0 ≡ sums n s f k
+sums-both : (n : ℕ) (s f : List ℕ) (k : ℕ) → ¬ (k ≡ 0) → sideSums n s f (k - 1) 1 ++ sideSums n s f (k - 1) 0 ≡ sums n s f (some k)
 sums-both n s f zero h = absurd (h refl)
 sums-both n s f (suc d) h = let e : suc d - 1 ≡ d = omega arith in ap (λ j. sideSums n s f j 1 ++ sideSums n s f j 0) e
 
 returns : tie.Need-returns
 returns c =
     let a = c .before .before .before .before .args in
-    (appends-same (ap (sums (a .n) (a .set .now) (a .table .now)) (sym (c .if1 .taken))) (appends-none (a .text .now) (a .at)), omega arith)
+    (appends-same (ap (λ k. sums (a .n) (a .set .now) (a .table .now) (some k)) (sym (c .if1 .taken))) (appends-none (a .text .now) (a .at)), omega arith)
 
 side-sums-requires : tie.Need-side-sums-requires
 side-sums-requires c κs =

@@ -88,10 +88,10 @@ B κs = T.the-row (namedLft 2 0 tt κs)
 
 -- the buffer is still owned at exit
 abbrev stayed : Stays (draw-points.ended .signature .params) (draw-points.ended .kept)
-stayed = (stay-none B in-full, (stay-none (λ _. usize) in-full, (stay-none (λ _. usize) in-full, (stay-slice (1 ∷ []) tt (plain (λ _. u8)), tt))))
+stayed = (stay-none B in-full, (stay-none (λ _. usize) in-full, (stay-slice (1 ∷ []) tt (plain (λ _. u8)), tt)))
 
 module _ {M : Type 1} (𝓤 : URA M) (H : Heap 𝓤) (A : Atoms 𝓤) (W : Given 𝓤 H A) (mem : Memory → SProp 𝓤) (run : Routine → Fun 𝓤) (κ κ′ : Lft) (q q′ : Share)
-    (d : Reader) (n least : ℕ) (n-fits : n < 2 ^ 64) (least-fits : least < 2 ^ 64) (bk o : ℕ) (γ : GName) (xs : List ℕ) (asks : (length xs ≡ 512) × (taps n ≡ true)) where
+    (d : Reader) (n : ℕ) (n-fits : n < 2 ^ 64) (bk o : ℕ) (γ : GName) (xs : List ℕ) (asks : (length xs ≡ 512) × (taps n ≡ true)) where
   abbrev κs : Lfts 2
   κs = (κ, (κ′, tt))
 
@@ -106,10 +106,10 @@ module _ {M : Type 1} (𝓤 : URA M) (H : Heap 𝓤) (A : Atoms 𝓤) (W : Given
   c = sliceVal (bk, o) (length xs)
 
   abbrev a : Args draw-points.signature κs
-  a = (d, (n, (least, (bytesAt bk o γ xs, tt))))
+  a = (d, (n, (bytesAt bk o γ xs, tt)))
 
   abbrev vals : Vals draw-points.signature κs
-  vals = (mach ∷ [], (vint w64 n ∷ [], (vint w64 least ∷ [], (c ∷ [], tt))))
+  vals = (mach ∷ [], (vint w64 n ∷ [], (c ∷ [], tt)))
 
   abbrev Post : Val → SProp 𝓤
   Post = walkOf 𝓤 H A draw-points.ended stayed (draw-points.clauses 𝓤 H A mem run) .post ((κs, (q, (q′, tt)), tt, a, vals), tt)
@@ -122,22 +122,21 @@ module _ {M : Type 1} (𝓤 : URA M) (H : Heap 𝓤) (A : Atoms 𝓤) (W : Given
   Buffer ys = BufferAt κ′ γ bk o ys (length xs)
 
   abbrev Here : Type 0
-  Here = State κ d n least xs
+  Here = State κ d n xs
 
   -- what is known of a list and of the reader's machine value once the count is drawn
   abbrev Begun : OpenList → Val → Type 0
   Begun list w =
       Is L.the-row list (openVal list ∷ []) × Is (T.the-row α) (readerAt (d .src) (list .progress .next)) (w ∷ []) × Bounded list
-      × (listAfter (accepted n) least xs (drop (d .at) (now (d .src))) ≡ remaining list xs (now (d .src)))
+      × (listAfter (accepted n) xs (drop (d .at) (now (d .src))) ≡ remaining list xs (now (d .src)))
 
-  exits : (p : Progress) → Is S.the-row p (LL.vals S.the-type S′.the-laws p) → (zs : List ℕ) → length zs ≡ length xs → ListDrawn d (accepted n) least (bytesAt bk o γ xs) p zs
+  exits : (p : Progress) → Is S.the-row p (LL.vals S.the-type S′.the-laws p) → (zs : List ℕ) → length zs ≡ length xs → ListDrawn d (accepted n) (bytesAt bk o γ xs) p zs
       → ent 𝓤 (⋆ 𝓤 H A (Token 𝓤 κ q ∷ ‵ (flft κ′ q′) ∷ ‵ (Buffer zs) ∷ ‵ Own ∷ [])) (Post (LL.val S.the-type S′.the-laws p))
   exits p p-is zs long e =
       qed W (Token 𝓤 κ q ∷ ‵ (flft κ′ q′) ∷ ‵ (Buffer zs) ∷ ‵ Own ∷ []) ∵
       suffices ! _ (ends-at 𝓤 H A draw-points.ended stayed (draw-points.clauses 𝓤 H A mem run) W ((κs, (q, (q′, tt)), tt, a, vals), tt) (LL.val S.the-type S′.the-laws p) p
-      (tt, (tt, (tt, (zs, tt)))) (tt, (tt, (tt, (long, tt))))) $ says ! e $ use2 W (Tokens 𝓤 κ q κ′ q′) (tokens-join 𝓤 H A W κ κ′ q q′) $ frame ! $
-      nothing ! $ move ! (1 ∷ 0 ∷ []) $ fjoin ! $ owned ! usize (Is usize) (uint-makes 𝓤 H A W w64) least _ (refl, least-fits) $ fjoin ! $
-      owned ! usize (Is usize) (uint-makes 𝓤 H A W w64) n _ (refl, n-fits) $ fjoin ! $ move ! (1 ∷ 0 ∷ []) $ fjoin ! $
+      (tt, (tt, (zs, tt))) (tt, (tt, (long, tt)))) $ says ! e $ use2 W (Tokens 𝓤 κ q κ′ q′) (tokens-join 𝓤 H A W κ κ′ q q′) $ frame ! $
+      nothing ! $ move ! (1 ∷ 0 ∷ []) $ fjoin ! $ owned ! usize (Is usize) (uint-makes 𝓤 H A W w64) n _ (refl, n-fits) $ fjoin ! $ move ! (1 ∷ 0 ∷ []) $ fjoin ! $
       owned ! S.the-row (Is S.the-row) (LL.makes S.the-type S′.the-plain 𝓤 H A) p _ p-is $ move ! (1 ∷ 0 ∷ []) $ done !
 
   module _ (𝓣 : Tables 𝓤 H) (known-draw : Triple 𝓤 (𝓣 .C #draw) (Draw 𝓤 H A mem run)) (known-past : Triple 𝓤 (𝓣 .C #past) (Past 𝓤 H A mem run))
@@ -161,109 +160,104 @@ module _ {M : Type 1} (𝓤 : URA M) (H : Heap 𝓤) (A : Atoms 𝓤) (W : Given
       abbrev Left : Out → SProp 𝓤
       Left = afterBlock 𝓤 H (afterSeq 𝓤 H (Wp 𝓤 H C Λ En pieces.t-7 (atReturn 𝓤 H En Post)) (atReturn 𝓤 H En Post))
 
-      -- what a turn does not touch: _0, what the reader that is passed owns, _1, _2, _3, _7, _8, _9, and that each local dies
+      -- what a turn does not touch: _0, what the reader that is passed owns, _1, _2, _6, _7, _8, and that each local dies
       abbrev Else : List (Item 𝓤)
       Else =
-          ‵ (froom progressTy (l 0) 0) ∷ ‵ Own ∷ ‵ (froom (T′.mir (named 0)) (l 1) 0) ∷ ‵ (froom (tyInt w64) (l 2) 0) ∷ ‵ (froom (tyInt w64) (l 3) 0) ∷ ‵ (froom numberTy (l 7) 0)
-          ∷ ‵ (froom readerTy (l 8) 0) ∷ ‵ (froom readerTy (l 9) 0) ∷ Dies 𝓤 H En
+          ‵ (froom progressTy (l 0) 0) ∷ ‵ Own ∷ ‵ (froom (T′.mir (named 0)) (l 1) 0) ∷ ‵ (froom (tyInt w64) (l 2) 0) ∷ ‵ (froom numberTy (l 6) 0)
+          ∷ ‵ (froom readerTy (l 7) 0) ∷ ‵ (froom readerTy (l 8) 0) ∷ Dies 𝓤 H En
 
       abbrev At : Here → List (Item 𝓤)
-      At = P.At 𝓤 κ κ′ q q′ d bk o γ xs l Else n least
+      At = P.At 𝓤 κ κ′ q q′ d bk o γ xs l Else n
 
       -- the turn that leaves the loop, and the rest of the body
-      --   after At, 13 _0, 14 what the reader that is passed owns, 15 _1, 16 _2, 17 _3, 18 _7, 19 _8, 20 _9, 21 that _0 dies, …
-      ends : (s : Here) → s .list .left ≤ 0 → Sq W (At s) (runs C Λ En pieces.turn-1 (anyQ (afterTurn 𝓤 H (Below 𝓤 H A (P.≺ κ d n least xs) At s) Left)))
+      --   after At, 13 _0, 14 what the reader that is passed owns, 15 _1, 16 _2, 17 _6, 18 _7, 19 _8, 20 that _0 dies, …
+      ends : (s : Here) → s .list .left ≤ 0 → Sq W (At s) (runs C Λ En pieces.turn-1 (anyQ (afterTurn 𝓤 H (Below 𝓤 H A (P.≺ κ d n xs) At s) Left)))
       unfolding afterTurn
       ends s none-left =
           assigns ! (bin ! (lit ! tt) (load ! (from ! (fld ! refl (stop !))) (look-in ! 4 (sub ! 2 refl (whole !)))) tt) (from ! (stop !)) (init ! 6 refl (tt, tt)) $
-          rewrite ! 6 (λ (t : Bool). ‵ (fat fullShare tyBool (l 10) 0 (vbool t))) (le-ltb 0 (s .list .left) none-left) refl $
+          rewrite ! 6 (λ (t : Bool). ‵ (fat fullShare tyBool (l 9) 0 (vbool t))) (le-ltb 0 (s .list .left) none-left) refl $
           leaves-loop ! (load ! (from ! (stop !)) (look ! 6 refl)) $ exec ! C Λ En pieces.t-7 (atRet En Post) $
           assigns ! (of-opd ! (load ! (from ! (fld ! refl (stop !))) (look-in ! 4 (sub ! 0 refl (whole !))))) (from ! (stop !))
           (init ! 13 refl (LL.lawful S.the-type S′.the-laws 𝓤 H A W .typed (s .list .progress) _ (progress-is (s .list) (s .list-is)) .0)) $
           returns ! (look ! 13 refl) $
-          move ! (13 ∷ 21 ∷ 15 ∷ 22 ∷ 16 ∷ 23 ∷ 17 ∷ 24 ∷ 12 ∷ 25 ∷ 4 ∷ 26 ∷ 5 ∷ 27 ∷ 18 ∷ 28 ∷ 19 ∷ 29 ∷ 20 ∷ 30 ∷ 6 ∷ 31 ∷ 7 ∷ 32 ∷ 8 ∷ 33 ∷ 9 ∷ 34 ∷ 10 ∷ 35 ∷ 11 ∷ 36 ∷ []) $
-          frees-all 𝓤 H A W En (some (progressVal (s .list)) ∷ none ∷ none ∷ none ∷ some c ∷ some (openVal (s .list)) ∷ some (s .w) ∷ none ∷ none ∷ none ∷ some (vbool false) ∷ []) _ _
+          move ! (13 ∷ 20 ∷ 15 ∷ 21 ∷ 16 ∷ 22 ∷ 12 ∷ 23 ∷ 4 ∷ 24 ∷ 5 ∷ 25 ∷ 17 ∷ 26 ∷ 18 ∷ 27 ∷ 19 ∷ 28 ∷ 6 ∷ 29 ∷ 7 ∷ 30 ∷ 8 ∷ 31 ∷ 9 ∷ 32 ∷ 10 ∷ 33 ∷ 11 ∷ 34 ∷ []) $
+          frees-all 𝓤 H A W En (some (progressVal (s .list)) ∷ none ∷ none ∷ some c ∷ some (openVal (s .list)) ∷ some (s .w) ∷ none ∷ none ∷ none ∷ some (vbool false) ∷ []) _ _
           (keep ! (0 ∷ 2 ∷ 3 ∷ 4 ∷ []) $
           by ! (exits (s .list .progress) (progress-is (s .list) (s .list-is)) (s .ys) (s .long) (sym (s .same ∙ list-drawn (s .list) (s .ys) (now (d .src)) (omega (arith, none-left))))))
 
-      turns : (s : Here) → Sq W (At s) (runs C Λ En pieces.turn-1 (anyQ (afterTurn 𝓤 H (Below 𝓤 H A (P.≺ κ d n least xs) At s) Left)))
+      turns : (s : Here) → Sq W (At s) (runs C Λ En pieces.turn-1 (anyQ (afterTurn 𝓤 H (Below 𝓤 H A (P.≺ κ d n xs) At s) Left)))
       turns s = elim (decLt 0 (s .list .left)) [
-        | yes g ↦ P.more 𝓤 H A W mem run κ κ′ q q′ d n least bk o γ xs (asks .0) room l Else 𝓣 known-draw known-past known-point Left s g
+        | yes g ↦ P.more 𝓤 H A W mem run κ κ′ q q′ d n bk o γ xs (asks .0) room l Else 𝓣 known-draw known-past known-point Left s g
         | no g ↦ ends s (omega (arith, g))
       ]
 
       -- the loop, and the rest of the body
       looped : (list : OpenList) (w : Val) → Begun list w → Sq W (P.AtOf 𝓤 κ κ′ q q′ d bk o γ xs l Else list xs w) (runs C Λ En pieces.t-6 (atRet En Post))
       looped list w begun =
-          first ! $ blocks ! $ loops ! 𝓣 (P.≺ κ d n least xs) (P.falls κ d n least xs) At turns
+          first ! $ blocks ! $ loops ! 𝓣 (P.≺ κ d n xs) (P.falls κ d n xs) At turns
           (record { list = list; ys = xs; w = w; list-is = begun .0; w-is = begun .1; long = refl; bounded = begun .2; same = begun .3 })
 
       -- the MIR up to the loop, with whatever else there is
-      --   0 the file's token, 1 what the reader owns, 2 _1, 3 _2, 4 _3, 5 _5, 6 _6, 7 _7, 8 _8, 9 _9, …
+      --   0 the file's token, 1 what the reader owns, 2 _1, 3 _2, 4 _4, 5 _5, 6 _6, 7 _7, 8 _8, …
       counted : (Γ : List (Item 𝓤))
           → ((list : OpenList) (w : Val) → Begun list w
-          → Sq W (‵ (Held κ (readerAt (d .src) (list .progress .next)) w) ∷ Token 𝓤 κ q ∷ ‵ Own ∷ ‵ (froom (T′.mir (named 0)) (l 1) 0) ∷ ‵ (froom (tyInt w64) (l 2) 0) ∷ ‵ (froom (tyInt w64) (l 3) 0)
-          ∷ ‵ (fat fullShare listTy (l 5) 0 (openVal list)) ∷ ‵ (fat fullShare readerTy (l 6) 0 w) ∷ ‵ (froom numberTy (l 7) 0) ∷ ‵ (froom readerTy (l 8) 0) ∷ ‵ (froom readerTy (l 9) 0) ∷ Γ)
+          → Sq W (‵ (Held κ (readerAt (d .src) (list .progress .next)) w) ∷ Token 𝓤 κ q ∷ ‵ Own ∷ ‵ (froom (T′.mir (named 0)) (l 1) 0) ∷ ‵ (froom (tyInt w64) (l 2) 0)
+          ∷ ‵ (fat fullShare listTy (l 4) 0 (openVal list)) ∷ ‵ (fat fullShare readerTy (l 5) 0 w) ∷ ‵ (froom numberTy (l 6) 0) ∷ ‵ (froom readerTy (l 7) 0) ∷ ‵ (froom readerTy (l 8) 0) ∷ Γ)
           (runs C Λ En pieces.t-6 (atRet En Post)))
-          → Sq W (Token 𝓤 κ q ∷ ‵ Own ∷ ‵ (fat fullShare (T′.mir (named 0)) (l 1) 0 mach) ∷ ‵ (fat fullShare (tyInt w64) (l 2) 0 (vint w64 n)) ∷ ‵ (fat fullShare (tyInt w64) (l 3) 0 (vint w64 least))
-          ∷ ‵ (froom listTy (l 5) 0) ∷ ‵ (froom readerTy (l 6) 0) ∷ ‵ (froom numberTy (l 7) 0) ∷ ‵ (froom readerTy (l 8) 0) ∷ ‵ (froom readerTy (l 9) 0) ∷ Γ)
+          → Sq W (Token 𝓤 κ q ∷ ‵ Own ∷ ‵ (fat fullShare (T′.mir (named 0)) (l 1) 0 mach) ∷ ‵ (fat fullShare (tyInt w64) (l 2) 0 (vint w64 n))
+          ∷ ‵ (froom listTy (l 4) 0) ∷ ‵ (froom readerTy (l 5) 0) ∷ ‵ (froom numberTy (l 6) 0) ∷ ‵ (froom readerTy (l 7) 0) ∷ ‵ (froom readerTy (l 8) 0) ∷ Γ)
           (runs C Λ En (code.function .body) (atRet En Post))
       counted Γ k =
           -- `draw`, at a copy of the reader
+          assigns ! (of-opd ! (load ! (from ! (stop !)) (look ! 2 refl))) (from ! (stop !)) (init ! 7 refl (typed-local 𝓤 H A W α d mach d-is)) $
+          move ! (1 ∷ []) $ use1 W (‵ Own ⊛ ‵ Own) (own-twice 𝓤 H A W α d mach) $ split ! $ move ! (2 ∷ 0 ∷ []) $
+          calls-draw 𝓤 H A W mem run κ q fm known-draw d mach (and-then ! (load ! (from ! (stop !)) (look ! 7 refl)) (no-more !)) (λ v r r-is drew.
+          land ! (from ! (stop !)) (init ! 6 refl (EL.lawful E.the-type E′.the-laws 𝓤 H A W tt .typed r _ r-is .0)) $
+          -- `count_of`
+          calls-count 𝓤 H A W mem run r v fm r-is known-count n n-fits (asks .1)
+          (and-then ! (load ! (from ! (stop !)) (look ! 4 refl)) (and-then ! (load ! (from ! (stop !)) (look ! 7 refl)) (no-more !))) (λ list list-is said.
+          land ! (from ! (stop !)) (init ! 4 refl (LL.lawful L.the-type L′.the-laws 𝓤 H A W .typed list _ list-is .0)) $
+          -- `past`, at a copy of the reader
           assigns ! (of-opd ! (load ! (from ! (stop !)) (look ! 2 refl))) (from ! (stop !)) (init ! 8 refl (typed-local 𝓤 H A W α d mach d-is)) $
           move ! (1 ∷ []) $ use1 W (‵ Own ⊛ ‵ Own) (own-twice 𝓤 H A W α d mach) $ split ! $ move ! (2 ∷ 0 ∷ []) $
-          calls-draw 𝓤 H A W mem run κ q fm known-draw d mach (and-then ! (load ! (from ! (stop !)) (look ! 8 refl)) (no-more !)) (λ v r r-is drew.
-          land ! (from ! (stop !)) (init ! 7 refl (EL.lawful E.the-type E′.the-laws 𝓤 H A W tt .typed r _ r-is .0)) $
-          -- `count_of`
-          calls-count 𝓤 H A W mem run r v fm r-is known-count n least n-fits least-fits (asks .1)
-          (and-then ! (load ! (from ! (stop !)) (look ! 4 refl)) (and-then ! (load ! (from ! (stop !)) (look ! 5 refl)) (and-then ! (load ! (from ! (stop !)) (look ! 8 refl)) (no-more !)))) (λ list list-is said.
-          land ! (from ! (stop !)) (init ! 5 refl (LL.lawful L.the-type L′.the-laws 𝓤 H A W .typed list _ list-is .0)) $
-          -- `past`, at a copy of the reader
-          assigns ! (of-opd ! (load ! (from ! (stop !)) (look ! 2 refl))) (from ! (stop !)) (init ! 9 refl (typed-local 𝓤 H A W α d mach d-is)) $
-          move ! (1 ∷ []) $ use1 W (‵ Own ⊛ ‵ Own) (own-twice 𝓤 H A W α d mach) $ split ! $ move ! (2 ∷ 0 ∷ []) $
           calls-past 𝓤 H A W mem run κ q fm known-past d mach (list .progress) (progressVal list) (progress-is list list-is)
-          (and-then ! (load ! (from ! (stop !)) (look ! 9 refl)) (and-then ! (load ! (from ! (fld ! refl (stop !))) (look-in ! 5 (sub ! 0 refl (whole !)))) (no-more !))) (λ w w-is.
+          (and-then ! (load ! (from ! (stop !)) (look ! 8 refl)) (and-then ! (load ! (from ! (fld ! refl (stop !))) (look-in ! 4 (sub ! 0 refl (whole !)))) (no-more !))) (λ w w-is.
           -- [what the reader owns; the file's token; what the reader that is passed owns; _1; …]
-          land ! (from ! (stop !)) (init ! 7 refl (typed-local 𝓤 H A W α (readerAt (d .src) (list .progress .next)) w w-is)) $
-          forget ! 3 refl $ forget ! 4 refl $ forget ! 5 refl $ forget ! 8 refl $ forget ! 9 refl $ forget ! 10 refl $
-          k list w (list-is, w-is, said .1, count-drawn n least (d .at) xs (now (d .src)) r list drew said))))
+          land ! (from ! (stop !)) (init ! 6 refl (typed-local 𝓤 H A W α (readerAt (d .src) (list .progress .next)) w w-is)) $
+          forget ! 3 refl $ forget ! 4 refl $ forget ! 7 refl $ forget ! 8 refl $ forget ! 9 refl $
+          k list w (list-is, w-is, said .1, count-drawn n (d .at) xs (now (d .src)) r list drew said))))
 
     -- the parameters
-    walk : ent 𝓤 (onEntry 𝓤 H A draw-points.signature κs (q, (q′, tt)) a vals) (WpFn 𝓤 H C Λ code.function (mach ∷ vint w64 n ∷ vint w64 least ∷ c ∷ []) Post)
+    walk : ent 𝓤 (onEntry 𝓤 H A draw-points.signature κs (q, (q′, tt)) a vals) (WpFn 𝓤 H C Λ code.function (mach ∷ vint w64 n ∷ c ∷ []) Post)
     walk =
-        qed W (Tokens 𝓤 κ q κ′ q′ ∷ ‵ (owns (B κs ∷ usize ∷ usize ∷ MutSlice (named 1) κ′ u8 ∷ []) a vals) ∷ []) ∵
-        enter ! C Λ code.function (mach ∷ vint w64 n ∷ vint w64 least ∷ c ∷ []) _ $
+        qed W (Tokens 𝓤 κ q κ′ q′ ∷ ‵ (owns (B κs ∷ usize ∷ MutSlice (named 1) κ′ u8 ∷ []) a vals) ∷ []) ∵
+        enter ! C Λ code.function (mach ∷ vint w64 n ∷ c ∷ []) _ $
         allocs-all 𝓤 H A W (code.function .locals) _ _ (λ bs.
-        params1 ! $ pass1 ! (init ! 28 refl (LL.lawful (T.the-type α) (T′.the-laws α) 𝓤 H A W .typed d _ d-is .0)) $ pass1 ! (init ! 26 refl (tt, record { fits = n-fits })) $
-        pass1 ! (init ! 24 refl (tt, record { fits = least-fits })) $ pass1 ! (init ! 22 refl (tt, (tt, (record { fits = room .0 }, tt)))) $ pass0 ! $
-        -- [_15; …; _1; …; room for _0; …; the tokens; what the parameters own]
-        move ! (32 ∷ []) $ use1 W (Token 𝓤 κ q ⊛ ‵ (flft κ′ q′)) (tokens-apart 𝓤 H A W κ κ′ q q′) $ split ! $
-        move ! (34 ∷ []) $ fsplit ! $ move ! (1 ∷ []) $ fsplit ! $ discard ! $ fsplit ! $ discard ! $ fsplit ! $ move ! (1 ∷ []) $ discard ! $
-        -- [what the buffer owns; what the reader owns; the file's token; the buffer's; _15; …]
-        move ! (2 ∷ 1 ∷ 32 ∷ 30 ∷ 28 ∷ 24 ∷ 22 ∷ 20 ∷ 18 ∷ 16 ∷ []) $
+        params1 ! $ pass1 ! (init ! 26 refl (LL.lawful (T.the-type α) (T′.the-laws α) 𝓤 H A W .typed d _ d-is .0)) $ pass1 ! (init ! 24 refl (tt, record { fits = n-fits })) $
+        pass1 ! (init ! 22 refl (tt, (tt, (record { fits = room .0 }, tt)))) $ pass0 ! $
+        -- [_14; …; _1; …; room for _0; …; the tokens; what the parameters own]
+        move ! (30 ∷ []) $ use1 W (Token 𝓤 κ q ⊛ ‵ (flft κ′ q′)) (tokens-apart 𝓤 H A W κ κ′ q q′) $ split ! $
+        move ! (32 ∷ []) $ fsplit ! $ move ! (1 ∷ []) $ fsplit ! $ discard ! $ fsplit ! $ move ! (1 ∷ []) $ discard ! $
+        -- [what the buffer owns; what the reader owns; the file's token; the buffer's; _14; …]
+        move ! (2 ∷ 1 ∷ 30 ∷ 28 ∷ 24 ∷ 22 ∷ 20 ∷ 18 ∷ 16 ∷ []) $
         counted (blockOf 𝓤 H (code.function .locals) bs) _ (λ list w begun.
-        -- [what the reader owns; the file's token; what the reader that is passed owns; _1; _2; _3; _5; _6; _7; _8; _9; what the buffer owns; its token; _15; that _15 dies; …]
-        keep ! (1 ∷ 0 ∷ 12 ∷ 11 ∷ 6 ∷ 7 ∷ 23 ∷ 21 ∷ 19 ∷ 17 ∷ 15 ∷ 13 ∷ 30 ∷ 35 ∷ 2 ∷ 3 ∷ 4 ∷ 5 ∷ 8 ∷ 9 ∷ 10 ∷ 36 ∷ 34 ∷ 33 ∷ 32 ∷ 31 ∷ 29 ∷ 28 ∷ 27 ∷ 26 ∷ 25 ∷ 24 ∷ 22 ∷ 20 ∷ 18 ∷ 16 ∷ 14 ∷ []) $ looped (blockOf 𝓤 H (code.function .locals) bs) list w begun))
+        -- [what the reader owns; the file's token; what the reader that is passed owns; _1; _2; _4; _5; _6; _7; _8; what the buffer owns; its token; _14; that _14 dies; …]
+        keep ! (1 ∷ 0 ∷ 11 ∷ 10 ∷ 5 ∷ 6 ∷ 22 ∷ 20 ∷ 18 ∷ 16 ∷ 14 ∷ 12 ∷ 29 ∷ 33 ∷ 2 ∷ 3 ∷ 4 ∷ 7 ∷ 8 ∷ 9 ∷ 34 ∷ 32 ∷ 31 ∷ 30 ∷ 28 ∷ 27 ∷ 26 ∷ 25 ∷ 24 ∷ 23 ∷ 21 ∷ 19 ∷ 17 ∷ 15 ∷ 13 ∷ []) $ looped (blockOf 𝓤 H (code.function .locals) bs) list w begun))
 
 draw-points-meets : {M : Type 1} (𝓤 : URA M) (H : Heap 𝓤) (A : Atoms 𝓤) (W : Given 𝓤 H A) (mem : Memory → SProp 𝓤) (run : Routine → Fun 𝓤) (𝓣 : Tables 𝓤 H)
     → Triple 𝓤 (𝓣 .C #draw) (Draw 𝓤 H A mem run) → Triple 𝓤 (𝓣 .C #past) (Past 𝓤 H A mem run)
     → Triple 𝓤 (𝓣 .C #count-of) (CountOf 𝓤 H A mem run) → Triple 𝓤 (𝓣 .C #point-of) (PointOf 𝓤 H A mem run)
     → Meets 𝓤 H A draw-points.signature (WpFn 𝓤 H (𝓣 .C) (𝓣 .Λ) code.function) (draw-points.spec 𝓤 H A mem run)
 draw-points-meets 𝓤 H A W mem run 𝓣 known-draw known-past known-count known-point =
-    walk-meets 𝓤 H A draw-points.ended stayed W (
-      goes-none 𝓤 H A W 2 B in-full (λ κs x f. refl),
-      (
-        goes-none 𝓤 H A W 2 (λ _. usize) in-full (λ κs x f. refl),
-        (goes-none 𝓤 H A W 2 (λ _. usize) in-full (λ κs x f. refl), (goes-slice 𝓤 H A W 2 1 tt (plain (λ _. u8)), tt)),
-      ),
-    )
+    walk-meets 𝓤 H A draw-points.ended stayed W
+    (goes-none 𝓤 H A W 2 B in-full (λ κs x f. refl), (goes-none 𝓤 H A W 2 (λ _. usize) in-full (λ κs x f. refl), (goes-slice 𝓤 H A W 2 1 tt (plain (λ _. u8)), tt)))
     (draw-points.clauses 𝓤 H A mem run) (WpFn 𝓤 H (𝓣 .C) (𝓣 .Λ) code.function) (WpFn-mono 𝓤 H (W .laws) 𝓣 code.function)
     (walked 𝓤 H A draw-points.ended stayed (draw-points.clauses 𝓤 H A mem run) (WpFn 𝓤 H (𝓣 .C) (𝓣 .Λ) code.function)
-    (λ κs. (LL.vals (T.the-type (namedLft 2 0 tt κs)) (T′.the-laws (namedLft 2 0 tt κs)), (uint-vals w64, (uint-vals w64, (slice-vals, tt)))))
-    (λ κs. (LL.tells (T.the-type (namedLft 2 0 tt κs)) (T′.the-laws (namedLft 2 0 tt κs)), (uint-tells w64, (uint-tells w64, (mut-slice-tells (named 1) (κs .1 .0) u8, tt)))))
-    (λ κs qs bounds a g are. needs 𝓤 ((length (now (a .1 .1 .1 .0)) ≡ 512) × (taps (a .1 .0) ≡ true)) _ (λ asks.
-    walk 𝓤 H A W mem run (κs .0) (κs .1 .0) (qs .0) (qs .1 .0) (a .0) (a .1 .0) (a .1 .1 .0) (are .1 .0 .1) (are .1 .1 .0 .1)
-    (a .1 .1 .1 .0 .ptr .0) (a .1 .1 .1 .0 .ptr .1) (a .1 .1 .1 .0 .name) (a .1 .1 .1 .0 .now) asks 𝓣 known-draw known-past known-count known-point (are .1 .1 .1 .0 .0 .1) (are .0))))
+    (λ κs. (LL.vals (T.the-type (namedLft 2 0 tt κs)) (T′.the-laws (namedLft 2 0 tt κs)), (uint-vals w64, (slice-vals, tt))))
+    (λ κs. (LL.tells (T.the-type (namedLft 2 0 tt κs)) (T′.the-laws (namedLft 2 0 tt κs)), (uint-tells w64, (mut-slice-tells (named 1) (κs .1 .0) u8, tt))))
+    (λ κs qs bounds a g are. needs 𝓤 ((length (now (a .1 .1 .0)) ≡ 512) × (taps (a .1 .0) ≡ true)) _ (λ asks.
+    walk 𝓤 H A W mem run (κs .0) (κs .1 .0) (qs .0) (qs .1 .0) (a .0) (a .1 .0) (are .1 .0 .1)
+    (a .1 .1 .0 .ptr .0) (a .1 .1 .0 .ptr .1) (a .1 .1 .0 .name) (a .1 .1 .0 .now) asks 𝓣 known-draw known-past known-count known-point (are .1 .1 .0 .0 .1) (are .0))))
 
 pub draw-points-spec : {M : Type 1} → stated.statement M
 unfolding code.routine tablesOf

@@ -61,7 +61,7 @@ use Rattle.file_reader.proofs.list.point_of.Symbol.{name as #point-of}
 use Rattle.file_reader.proofs.reader.Reader.draw_points.Code.Mir as pieces
 
 -- how far a list is drawn before a turn
-pub record State (κ : Lft) (d : Reader) (n least : ℕ) (xs : List ℕ) : Type 0 where
+pub record State (κ : Lft) (d : Reader) (n : ℕ) (xs : List ℕ) : Type 0 where
   pub list : OpenList
   pub ys : List ℕ
   pub w : Val
@@ -69,7 +69,7 @@ pub record State (κ : Lft) (d : Reader) (n least : ℕ) (xs : List ℕ) : Type 
   pub w-is : Is (T.the-row (namedLft 1 0 tt (κ, tt))) (readerAt (d .src) (list .progress .next)) (w ∷ [])
   pub long : length ys ≡ length xs
   pub bounded : Bounded list
-  pub same : listAfter (accepted n) least xs (drop (d .at) (now (d .src))) ≡ remaining list ys (now (d .src))
+  pub same : listAfter (accepted n) xs (drop (d .at) (now (d .src))) ≡ remaining list ys (now (d .src))
 
 -- the types of the locals: what the file says so far
 abbrev pub progressTy : Ty
@@ -103,12 +103,12 @@ progressVal list = LL.val S.the-type S′.the-laws (list .progress)
 pub progress-is : (list : OpenList) → Is L.the-row list (openVal list ∷ []) → Is S.the-row (list .progress) (progressVal list ∷ [])
 progress-is list is = LL.owed L.the-type L′.the-laws list _ is .0
 
-module _ (κ : Lft) (d : Reader) (n least : ℕ) (xs : List ℕ) where
+module _ (κ : Lft) (d : Reader) (n : ℕ) (xs : List ℕ) where
   -- fewer points are left
-  abbrev pub ≺ : State κ d n least xs → State κ d n least xs → Type 0
+  abbrev pub ≺ : State κ d n xs → State κ d n xs → Type 0
   ≺ s t = s .list .left < t .list .left
 
-  acc-below : (m : ℕ) (s : State κ d n least xs) → s .list .left < m → Acc ≺ s
+  acc-below : (m : ℕ) (s : State κ d n xs) → s .list .left < m → Acc ≺ s
   acc-below zero s h = absurd (not-suc-le-zero h)
   acc-below (suc m) s h = Acc·intro s (λ t ht. acc-below m t (lt-of-lt-of-le ht (le-of-suc-le-suc h)))
 
@@ -119,24 +119,24 @@ module _ (κ : Lft) (d : Reader) (n least : ℕ) (xs : List ℕ) where
 -- the locals, where l has the block of each
 abbrev pub En : {M : Type 1} (𝓤 : URA M) (H : Heap 𝓤) → (ℕ → ℕ) → Env 𝓤 H
 En 𝓤 H l =
-    (progressTy, l 0) ∷ (T′.mir (named 0), l 1) ∷ (tyInt w64, l 2) ∷ (tyInt w64, l 3) ∷ (bufferTy, l 4) ∷ (listTy, l 5) ∷ (readerTy, l 6) ∷ (numberTy, l 7) ∷ (readerTy, l 8) ∷ (readerTy, l 9)
-    ∷ (tyBool, l 10) ∷ (numberTy, l 11) ∷ (readerTy, l 12) ∷ (tyRef erased mut (tyInt w8), l 13) ∷ (lentTy, l 14) ∷ (readerTy, l 15) ∷ []
+    (progressTy, l 0) ∷ (T′.mir (named 0), l 1) ∷ (tyInt w64, l 2) ∷ (bufferTy, l 3) ∷ (listTy, l 4) ∷ (readerTy, l 5) ∷ (numberTy, l 6) ∷ (readerTy, l 7) ∷ (readerTy, l 8)
+    ∷ (tyBool, l 9) ∷ (numberTy, l 10) ∷ (readerTy, l 11) ∷ (tyRef erased mut (tyInt w8), l 12) ∷ (lentTy, l 13) ∷ (readerTy, l 14) ∷ []
 
 module _ {M : Type 1} (𝓤 : URA M) (κ κ′ : Lft) (q q′ : Share) (d : Reader) (bk o : ℕ) (γ : GName) (xs : List ℕ) (l : ℕ → ℕ) (Γ : List (Item 𝓤)) where
   -- the context before a turn, of a list, the buffer's bytes ys and the reader's machine value w, with whatever else there is
-  --   0 the file's token, 1 what the reader owns, 2 the buffer's token, 3 what the buffer owns, 4 _5, 5 _6, 6 _10, 7 _11, 8 _12, 9 _13, 10 _14, 11 _15, 12 _4, …
+  --   0 the file's token, 1 what the reader owns, 2 the buffer's token, 3 what the buffer owns, 4 _4, 5 _5, 6 _9, 7 _10, 8 _11, 9 _12, 10 _13, 11 _14, 12 _3, …
   abbrev pub AtOf : OpenList → List ℕ → Val → List (Item 𝓤)
   AtOf list ys w =
       Token 𝓤 κ q ∷ ‵ (Held κ (readerAt (d .src) (list .progress .next)) w) ∷ ‵ (flft κ′ q′) ∷ ‵ (BufferAt κ′ γ bk o ys (length xs))
-      ∷ ‵ (fat fullShare listTy (l 5) 0 (openVal list)) ∷ ‵ (fat fullShare readerTy (l 6) 0 w) ∷ ‵ (froom tyBool (l 10) 0) ∷ ‵ (froom numberTy (l 11) 0) ∷ ‵ (froom readerTy (l 12) 0)
-      ∷ ‵ (froom (tyRef erased mut (tyInt w8)) (l 13) 0) ∷ ‵ (froom lentTy (l 14) 0) ∷ ‵ (froom readerTy (l 15) 0) ∷ ‵ (fat fullShare bufferTy (l 4) 0 (sliceVal (bk, o) (length xs))) ∷ Γ
+      ∷ ‵ (fat fullShare listTy (l 4) 0 (openVal list)) ∷ ‵ (fat fullShare readerTy (l 5) 0 w) ∷ ‵ (froom tyBool (l 9) 0) ∷ ‵ (froom numberTy (l 10) 0) ∷ ‵ (froom readerTy (l 11) 0)
+      ∷ ‵ (froom (tyRef erased mut (tyInt w8)) (l 12) 0) ∷ ‵ (froom lentTy (l 13) 0) ∷ ‵ (froom readerTy (l 14) 0) ∷ ‵ (fat fullShare bufferTy (l 3) 0 (sliceVal (bk, o) (length xs))) ∷ Γ
 
   -- the same of a state
-  abbrev pub At : (n least : ℕ) → State κ d n least xs → List (Item 𝓤)
-  At n least s = AtOf (s .list) (s .ys) (s .w)
+  abbrev pub At : (n : ℕ) → State κ d n xs → List (Item 𝓤)
+  At n s = AtOf (s .list) (s .ys) (s .w)
 
 module _ {M : Type 1} (𝓤 : URA M) (H : Heap 𝓤) (A : Atoms 𝓤) (W : Given 𝓤 H A) (mem : Memory → SProp 𝓤) (run : Routine → Fun 𝓤) (κ κ′ : Lft) (q q′ : Share)
-    (d : Reader) (n least bk o : ℕ) (γ : GName) (xs : List ℕ) (full : length xs ≡ 512) (room : Room u8 (length xs)) (l : ℕ → ℕ) (Γ : List (Item 𝓤))
+    (d : Reader) (n bk o : ℕ) (γ : GName) (xs : List ℕ) (full : length xs ≡ 512) (room : Room u8 (length xs)) (l : ℕ → ℕ) (Γ : List (Item 𝓤))
     (𝓣 : Tables 𝓤 H) (known-draw : Triple 𝓤 (𝓣 .C #draw) (Draw 𝓤 H A mem run)) (known-past : Triple 𝓤 (𝓣 .C #past) (Past 𝓤 H A mem run))
     (known-point : Triple 𝓤 (𝓣 .C #point-of) (PointOf 𝓤 H A mem run)) (Left : Out → SProp 𝓤) where
   abbrev α : NamedLft
@@ -145,23 +145,23 @@ module _ {M : Type 1} (𝓤 : URA M) (H : Heap 𝓤) (A : Atoms 𝓤) (W : Given
   abbrev fm : FmC 𝓤 H (W .laws) (𝓣 .C)
   fm = fmOf 𝓤 H (W .laws) 𝓣
 
-  abbrev Here : State κ d n least xs → List (Item 𝓤)
-  Here = At 𝓤 κ κ′ q q′ d bk o γ xs l Γ n least
+  abbrev Here : State κ d n xs → List (Item 𝓤)
+  Here = At 𝓤 κ κ′ q q′ d bk o γ xs l Γ n
 
   -- the reader of a state, and what it owns
-  abbrev reader : State κ d n least xs → Reader
+  abbrev reader : State κ d n xs → Reader
   reader s = readerAt (d .src) (s .list .progress .next)
 
-  abbrev Reads : State κ d n least xs → Fml
+  abbrev Reads : State κ d n xs → Fml
   Reads s = Held κ (reader s) (s .w)
 
   -- a turn that draws a point
-  pub more : (s : State κ d n least xs) → 0 < s .list .left
-      → Sq W (Here s) (runs (𝓣 .C) (𝓣 .Λ) (En 𝓤 H l) pieces.turn-1 (anyQ (afterTurn 𝓤 H (Below 𝓤 H A (≺ κ d n least xs) Here s) Left)))
+  pub more : (s : State κ d n xs) → 0 < s .list .left
+      → Sq W (Here s) (runs (𝓣 .C) (𝓣 .Λ) (En 𝓤 H l) pieces.turn-1 (anyQ (afterTurn 𝓤 H (Below 𝓤 H A (≺ κ d n xs) Here s) Left)))
   unfolding afterTurn
   more s some =
       assigns ! (bin ! (lit ! tt) (load ! (from ! (fld ! refl (stop !))) (look-in ! 4 (sub ! 2 refl (whole !)))) tt) (from ! (stop !)) (init ! 6 refl (tt, tt)) $
-      rewrite ! 6 (λ (t : Bool). ‵ (fat fullShare tyBool (l 10) 0 (vbool t))) (lt-ltb 0 (s .list .left) some) refl $
+      rewrite ! 6 (λ (t : Bool). ‵ (fat fullShare tyBool (l 9) 0 (vbool t))) (lt-ltb 0 (s .list .left) some) refl $
       stays ! (load ! (from ! (stop !)) (look ! 6 refl)) $
       -- `draw`, at a copy of the reader
       assigns ! (of-opd ! (load ! (from ! (stop !)) (look ! 5 refl))) (from ! (stop !)) (init ! 8 refl (typed-local 𝓤 H A W α (reader s) (s .w) (s .w-is))) $
@@ -172,17 +172,17 @@ module _ {M : Type 1} (𝓤 : URA M) (H : Heap 𝓤) (A : Atoms 𝓤) (W : Given
       assigns ! (addr ! (from ! (fld ! refl (hop ! (look-in ! 12 (sub ! 0 refl (whole !))) (stop !))))) (from ! (stop !)) (init ! 9 refl (tt, tt)) $
       assigns ! (agg ! (and-then ! (load ! (from ! (stop !)) (look ! 9 refl)) (and-then ! (load ! (from ! (fld ! refl (stop !))) (look-in ! 12 (sub ! 1 refl (whole !)))) (no-more !))))
       (from ! (stop !)) (init ! 10 refl (tt, (tt, (record { fits = room .0 }, tt)))) $
-      rewrite ! 3 (λ (m : ℕ). ‵ (BufferAt κ′ γ bk o (s .ys) m)) (sym (s .long)) refl $ rewrite ! 10 (λ (m : ℕ). ‵ (fat fullShare lentTy (l 14) 0 (sliceVal (bk, o) m))) (sym (s .long)) refl $
+      rewrite ! 3 (λ (m : ℕ). ‵ (BufferAt κ′ γ bk o (s .ys) m)) (sym (s .long)) refl $ rewrite ! 10 (λ (m : ℕ). ‵ (fat fullShare lentTy (l 13) 0 (sliceVal (bk, o) m))) (sym (s .long)) refl $
       move ! (3 ∷ 2 ∷ []) $
       calls-point 𝓤 H A W mem run κ′ q′ γ bk o (s .list) r v (s .ys) fm known-point (s .list-is) r-is (some, s .bounded, s .long ∙ full) (subst (Room u8) (sym (s .long)) room)
       (λ ν δ. and-then ! (load ! (from ! (stop !)) (look ! 4 refl)) (and-then ! (load ! (from ! (stop !)) (look ! 7 refl)) (and-then ! (load ! (from ! (stop !)) (look ! 10 refl)) (no-more !)))) (λ list zs list-is said long.
       land ! (from ! (stop !)) (store ! 4 refl (LL.lawful L.the-type L′.the-laws 𝓤 H A W .typed list _ list-is .0)) $
-      -- `past`, at a copy of the reader. [what the buffer owns; its token; the file's token; what the reader owns; _5; …]
+      -- `past`, at a copy of the reader. [what the buffer owns; its token; the file's token; what the reader owns; _4; …]
       assigns ! (of-opd ! (load ! (from ! (stop !)) (look ! 5 refl))) (from ! (stop !)) (init ! 11 refl (typed-local 𝓤 H A W α (reader s) (s .w) (s .w-is))) $
       move ! (2 ∷ 3 ∷ []) $
       calls-past-last 𝓤 H A W mem run κ q fm known-past (reader s) (s .w) (list .progress) (progressVal list) (progress-is list list-is)
       (and-then ! (load ! (from ! (stop !)) (look ! 10 refl)) (and-then ! (load ! (from ! (fld ! refl (stop !))) (look-in ! 3 (sub ! 0 refl (whole !)))) (no-more !))) (λ w w-is.
-      let s₁ : State κ d n least xs = record {
+      let s₁ : State κ d n xs = record {
         list = list;
         ys = zs;
         w = w;
@@ -192,7 +192,7 @@ module _ {M : Type 1} (𝓤 : URA M) (H : Heap 𝓤) (A : Atoms 𝓤) (W : Given
         bounded = said .2;
         same = s .same ∙ point-drawn (s .list) (s .ys) zs (now (d .src)) r list some drew said;
       } in
-      -- [what the reader owns; the file's token; what the buffer owns; its token; _5; …]
+      -- [what the reader owns; the file's token; what the buffer owns; its token; _4; …]
       land-last ! (from ! (stop !)) (store ! 5 refl (typed-local 𝓤 H A W α (reader s₁) w w-is)) $
       forget ! 6 refl $ forget ! 7 refl $ forget ! 8 refl $ forget ! 9 refl $ forget ! 10 refl $ forget ! 11 refl $
-      rewrite ! 2 (λ (m : ℕ). ‵ (BufferAt κ′ γ bk o zs m)) (s .long) refl $ move ! (1 ∷ 0 ∷ 3 ∷ 2 ∷ []) $ again ! (≺ κ d n least xs) Here s s₁ (said .1))))
+      rewrite ! 2 (λ (m : ℕ). ‵ (BufferAt κ′ γ bk o zs m)) (s .long) refl $ move ! (1 ∷ 0 ∷ 3 ∷ 2 ∷ []) $ again ! (≺ κ d n xs) Here s s₁ (said .1))))
