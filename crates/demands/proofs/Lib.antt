@@ -12,6 +12,7 @@ pub mod CertifyWords
 pub mod HandOverWords
 pub mod SheetWords
 pub mod JudgementWords
+pub mod Empty
 pub mod Kept
 pub mod Mark
 pub mod Sides

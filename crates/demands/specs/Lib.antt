@@ -2,6 +2,7 @@
 pub mod Cases
 pub mod Check
 pub mod Demands
+pub mod Empty
 pub mod JudgementWords
 pub mod Kept
 pub mod Mark
