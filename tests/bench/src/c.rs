@@ -48,13 +48,28 @@ pub const JUDGE: Option<Judge> = Some(|filter, workspace, one, zero, kept| {
     assert_eq!((workspace.len(), one.len(), zero.len(), kept.len()), (8192, 512, 512, 512));
     let (n, set, table) = (filter.n, filter.set.as_ptr(), filter.table.as_ptr());
     let (workspace, one, zero, kept) = (workspace.as_mut_ptr(), one.as_mut_ptr(), zero.as_mut_ptr(), kept.as_mut_ptr());
-    let mut answer =
-        Judgement { ranks: [[0; 3]; 10], degree: 0, side: 0, additions: 0, own_degrees: [None; 2], mark: 0 };
-    let mut numbers = [0; 2];
-    let Judgement { ranks, degree, side, additions, mark, .. } = &mut answer;
-    unsafe { c_judge(set, table, n, workspace, one, zero, kept, ranks, degree, side, additions, &mut numbers, mark) };
-    answer.own_degrees = numbers.map(|d| (d < answer.ranks.len()).then_some(d));
-    answer
+    let (mut ranks, mut additions, mut side) = ([[0; 3]; 10], 0, 0);
+    let (mut degree, mut own_degrees, mut mark) = (0, [0; 2], 0);
+    unsafe {
+        c_judge(
+            set,
+            table,
+            n,
+            workspace,
+            one,
+            zero,
+            kept,
+            &mut ranks,
+            &mut degree,
+            &mut side,
+            &mut additions,
+            &mut own_degrees,
+            &mut mark,
+        )
+    };
+    let found = |d: usize| (d < ranks.len()).then_some(d);
+    let (degree, own_degrees, mark) = (found(degree), own_degrees.map(found), found(mark));
+    Judgement { ranks, degree, side: (side < 2).then_some(side), additions, own_degrees, mark }
 });
 
 // Certify.

@@ -4,7 +4,8 @@
 #include "elimination.h"
 #include <string.h>
 
-enum { DEGREES = 10 };
+// The number of degrees, which stands for no degree, and the number for no side.
+enum { DEGREES = 10, NO_SIDE = 2 };
 
 // Takes rows of the mask's points until one is kept; whether one is.
 static int take_new(struct basis *basis, const uint8_t *mask, int columns, uint64_t *workspace) {
@@ -118,15 +119,22 @@ static size_t first_difference(size_t ranks[DEGREES][3], int i) {
     return d;
 }
 
-// The first degree at which twice the rank of the set exceeds the number of its points, which is its rank at n.
+// Whether the rank of the mask i is not that of the set at degree k, if that is a degree.
+static int differs(size_t ranks[DEGREES][3], size_t k, int i) {
+    return k < DEGREES && ranks[k][i] != ranks[k][0];
+}
+
+// The first degree at which twice the rank of the set exceeds the number of its points, which is its rank at n, or
+// DEGREES if there is none.
 static size_t mark_of(size_t ranks[DEGREES][3], size_t n) {
     size_t d = 0;
-    while (d < n && 2 * ranks[d][0] <= ranks[n][0])
+    while (d < DEGREES && 2 * ranks[d][0] <= ranks[n][0])
         d++;
     return d;
 }
 
-// Judge of a filter of n taps; the workspace is zero at exit. A side that has no degree of its own gets DEGREES.
+// Judge of a filter of n taps; the workspace is zero at exit. A degree or a mark that there is not becomes DEGREES, and a
+// side NO_SIDE. Where there is no degree, the set has no point, and nothing is kept of it.
 void c_judge(const uint8_t *set, const uint8_t *table, size_t n, uint64_t *workspace, uint8_t *one, uint8_t *zero,
              uint8_t *kept, size_t ranks[DEGREES][3], size_t *degree, uint8_t *side, uint32_t *additions,
              size_t own_degrees[2], size_t *mark) {
@@ -143,12 +151,12 @@ void c_judge(const uint8_t *set, const uint8_t *table, size_t n, uint64_t *works
     mark_below(&of_set, column_count(n, k), kept);
     memset(one, 0, POINTS);
     memset(zero, 0, POINTS);
-    if (ranks[k][1] != ranks[k][0])
+    if (differs(ranks, k, 1))
         write_witness(one, set, part_one, n, k, workspace);
-    if (ranks[k][2] != ranks[k][0])
+    if (differs(ranks, k, 2))
         write_witness(zero, set, part_zero, n, k, workspace);
     clear(workspace);
     *degree = k;
-    *side = ranks[k][1] != ranks[k][0];
+    *side = k < DEGREES ? differs(ranks, k, 1) : NO_SIDE;
     *mark = mark_of(ranks, n);
 }

@@ -54,9 +54,10 @@ impl Found {
     }
 }
 
-// The first degree at which twice the rank of the set exceeds the number of its points, which is its rank at n.
-fn mark(ranks: &[[usize; 3]; 10], n: usize) -> usize {
-    (0..n).find(|d| 2 * ranks[*d][0] > ranks[n][0]).unwrap_or(n)
+// The first degree at which twice the rank of the set exceeds the number of its points, which is its rank at n, if there
+// is one.
+fn mark(ranks: &[[usize; 3]; 10], n: usize) -> Option<usize> {
+    (0..=n).find(|d| 2 * ranks[*d][0] > ranks[n][0])
 }
 
 // Judge of a filter; the workspace is zero at exit.
@@ -70,15 +71,15 @@ pub fn judge(filter: Filter, workspace: &mut [u64], one: &mut [u8], zero: &mut [
     let of_set = found.take(0, set, &columns[..=n], kept, rows);
     let Found { ranks, additions } = found;
     let own_degrees = [1, 2].map(|i| ranks.iter().position(|line| line[i] != line[0]));
-    let degree = own_degrees.into_iter().flatten().min().expect("at n a part differs");
-    of_set.mark_below(columns[degree], marks);
+    let degree = own_degrees.into_iter().flatten().min();
+    of_set.mark_below(degree.map_or(0, |k| columns[k]), marks);
     for (witness, part, rank) in [(one, &part_one, 1), (zero, &part_zero, 2)] {
         witness.fill(0);
-        if ranks[degree][rank] != ranks[degree][0] {
-            write_witness(witness, [set, part], n, degree, kept, rows);
+        if let Some(k) = degree.filter(|k| ranks[*k][rank] != ranks[*k][0]) {
+            write_witness(witness, [set, part], n, k, kept, rows);
         }
     }
     workspace.fill(0);
-    let side = u8::from(ranks[degree][1] != ranks[degree][0]);
+    let side = degree.map(|k| u8::from(ranks[k][1] != ranks[k][0]));
     Judgement { ranks, degree, side, additions, own_degrees, mark: mark(&ranks, n) }
 }

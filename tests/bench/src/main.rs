@@ -19,7 +19,7 @@ use contenders::{certifies, checks, checks_and_certify, judges, m4ri_steps, rank
 use independent::filter::Filter;
 use independent::normal_form::weight;
 use independent::random::Random;
-use independent::samples::{mask_of, pairs};
+use independent::samples::{kinds, mask_of, pairs};
 use operations::{NAMES, Subject, process_start};
 use timing::{line, line_of, means, race};
 
@@ -65,31 +65,32 @@ fn bench_judgement(title: &str, set: &[u8]) {
         println!("M4RI, the ranks alone, from 30 matrices: build {build:.1}, echelonize {echelonize:.1}");
     }
     for side in [1, 0] {
-        let found = filters.iter().zip(&judged);
-        let inputs = found.map(|(filter, ((judgement, _), _))| certifies(*filter, side, judgement.degree - 1));
+        let found = filters.iter().zip(&judged).map(|(filter, ((judgement, _), _))| (*filter, judgement.degree));
+        let inputs = found.map(|(filter, k)| certifies(filter, side, k.expect("a set with a point") - 1));
         println!("Certify, side {side}  {}", line(&means(&race(FEW, &inputs.collect::<Vec<_>>()))));
     }
 }
 
 // Every n with every kind of set and table.
-fn kinds() -> Vec<(usize, (usize, usize))> {
-    pairs(&[1, 2, 3, 4, 5, 6, 7, 8, 9], &pairs(&[0, 1, 2, 3, 4, 5], &[0, 1, 2, 3, 4]))
+fn kinds_of_every_n() -> Vec<(usize, (usize, usize))> {
+    pairs(&[1, 2, 3, 4, 5, 6, 7, 8, 9], &kinds())
 }
 
 // Judge of a filter of every n and every kind of set and table, once by each contender: the same answers.
 fn compare_judges() {
     let mut random = Random(2);
-    for (n, (for_set, for_table)) in kinds() {
+    for (n, (for_set, for_table)) in kinds_of_every_n() {
         let (set, table) = (random.set(n, for_set), random.table(n, for_table));
         race(1, &[judges(Filter { n, set: &set, table: &table })]);
     }
-    println!("Judge of {} filters of one to nine taps: every contender gives the proved answer", kinds().len());
+    let count = kinds_of_every_n().len();
+    println!("Judge of {count} filters of one to nine taps: every contender gives the proved answer");
 }
 
 // Certify of each side of such filters at each degree, once by each contender: the same answers.
 fn compare_certifies() {
     let (mut random, mut answers) = (Random(6), Vec::new());
-    for (n, (for_set, for_table)) in kinds() {
+    for (n, (for_set, for_table)) in kinds_of_every_n() {
         let (set, table) = (random.set(n, for_set), random.table(n, for_table));
         let asked = (0..=n).flat_map(|d| [(1, d), (0, d)]);
         let inputs = asked.map(|(side, d)| certifies(Filter { n, set: &set, table: &table }, side, d));
@@ -103,7 +104,7 @@ fn compare_certifies() {
 // same answers.
 fn compare_checks() {
     let (mut random, mut answers) = (Random(5), Vec::new());
-    for (n, (for_set, for_table)) in kinds() {
+    for (n, (for_set, for_table)) in kinds_of_every_n() {
         let (set, table) = (random.set(n, for_set), random.table(n, for_table));
         for own in certificates(Filter { n, set: &set, table: &table }) {
             let found = race(1, &[checks(&own), checks(&own.damaged(&mut random))]);
@@ -142,7 +143,7 @@ fn bench_check(title: &str, set: &[u8], table: &[u8]) {
     let (filter, mut random) = (Filter { n: 9, set, table }, Random(4));
     let [mut one, mut zero, mut kept] = [[0; 512]; 3];
     let judged = library::judge(filter, &mut [0; 8192], &mut one, &mut zero, &mut kept).expect("accepted");
-    let own = certificates(filter).filter(|own| own.d < judged.degree);
+    let own = certificates(filter).filter(|own| Some(own.d) < judged.degree);
     let both: Vec<Certificate> = own.flat_map(|own| [own.clone(), own.with_longer_sums(&mut random)]).collect();
     println!("Check, n = 9, {title}; microseconds, least of {RUNS} runs, all in turn");
     println!(
@@ -174,9 +175,9 @@ fn bench_growth(title: &str, filters: impl Iterator<Item = (usize, Vec<u8>, Vec<
     println!(" n points degree additions{}", NAMES.map(|name| format!("{name:>10}")).concat());
     for (n, set, table) in filters {
         let subject = Subject::new(n, set, table);
-        let (points, found) = (subject.points(), &subject.judgement);
+        let (points, degree, additions) = (subject.points(), subject.degree, subject.additions);
         let times = subject.times(RUNS, 1).map(|times| line(&times)).concat();
-        println!("{n:2} {points:6} {:6} {:9}{times}", found.degree, found.additions);
+        println!("{n:2} {points:6} {degree:6} {additions:9}{times}");
     }
 }
 

@@ -29,14 +29,17 @@ pub const NAMES: [&str; 10] =
 // No file is longer.
 const FILE_MAX: usize = 2053;
 
-// A filter, its file, the coefficients of its table, and what Judge answers and leaves in the witness buffers.
+// A filter on a set with a point, its file, the coefficients of its table, and of what Judge answers and leaves the
+// degree, the side, the additions and the witness buffers.
 pub struct Subject {
     n: usize,
     set: Vec<u8>,
     table: Vec<u8>,
     file: Vec<u8>,
     coefficients: Vec<u8>,
-    pub judgement: Judgement,
+    pub degree: usize,
+    side: u8,
+    pub additions: u32,
     witnesses: [[u8; 512]; 2],
 }
 
@@ -72,8 +75,9 @@ impl Subject {
         let ([one, zero], filter) = (&mut witnesses, Filter { n, set: &set, table: &table });
         let file = Triple::of(filter).file();
         let judged = library::judge(filter, &mut [0; 8192], one, zero, &mut [0; 512]);
-        let judgement = judged.expect("a filter that Judge accepts");
-        Subject { n, set, table, file, coefficients, judgement, witnesses }
+        let Judgement { degree, side, additions, .. } = judged.expect("a filter that Judge accepts");
+        let (degree, side) = degree.zip(side).expect("a set with a point");
+        Subject { n, set, table, file, coefficients, degree, side, additions, witnesses }
     }
 
     // The number of bytes of the file.
@@ -143,7 +147,7 @@ impl Subject {
     fn certify(&self, certify: Certify) -> impl Fn(&mut [u64]) -> Vec<u64> {
         move |workspace| {
             let mut certificate = vec![0; 4096];
-            certify(self.filter(), 1, self.judgement.degree - 1, workspace, &mut certificate).expect("accepted");
+            certify(self.filter(), 1, self.degree - 1, workspace, &mut certificate).expect("accepted");
             certificate
         }
     }
@@ -151,14 +155,14 @@ impl Subject {
     // Check of what Certify writes.
     fn check(&self, check: Check) -> impl Fn(&mut [u64]) -> bool {
         let certificate = self.certify(library::certify)(&mut [0; 8192]);
-        move |_| check(self.filter(), 1, self.judgement.degree - 1, &certificate).expect("accepted")
+        move |_| check(self.filter(), 1, self.degree - 1, &certificate).expect("accepted")
     }
 
     // Hand over of the reported side's witness.
     fn hand_over(&self, hand_over: HandOver) -> impl Fn(&mut [u64]) -> (usize, [u8; 512]) {
         move |_| {
             let ([one, zero], mut copy) = (&self.witnesses, [0; 512]);
-            (hand_over(self.n, self.judgement.side, one, zero, &mut copy), copy)
+            (hand_over(self.n, self.side, one, zero, &mut copy), copy)
         }
     }
 

@@ -34,9 +34,9 @@ fn put(bytes: &mut [u8], place: usize, value: u8) {
     bytes.iter_mut().skip(place).take(1).for_each(|byte| *byte = value);
 }
 
-// What every operation over a filter checks: lengths, n, the bytes of the set and of the table, and that the set has a
-// point. The first changes nothing. A 1 in the last byte is wrong below nine taps only, and a table of zeros is wrong for
-// Certify of side 1 only.
+// What every operation over a filter checks: lengths, n, and the bytes of the set and of the table. The first changes
+// nothing. A 1 in the last byte is wrong below nine taps only, and a table of zeros is wrong for Certify of side 1 only. A
+// set of zeros is never wrong: it has no point, and then a table of zeros is not wrong either, nor any degree up to n.
 fn filter_faults<Own>() -> [Fault<Own>; 22] {
     [
         |_| (),

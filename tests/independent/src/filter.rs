@@ -1,6 +1,6 @@
 // A filter as it is lent, and the checks that every operation over a set and a table makes.
 use crate::rank::points_of;
-use crate::refusal::{POINTS, Refusal, bytes, lengths, require, taps};
+use crate::refusal::{POINTS, Refusal, bytes, lengths, taps};
 
 // What the operations over a set and a table are asked about, as it is lent.
 #[derive(Clone, Copy, Debug)]
@@ -20,8 +20,7 @@ impl Filter<'_> {
     pub fn check(&self) -> Result<(), Refusal> {
         taps(self.n)?;
         bytes(self.set, self.n)?;
-        bytes(self.table, self.n)?;
-        require(self.set.contains(&1), Refusal::EmptySet)
+        bytes(self.table, self.n)
     }
 
     // The points of S where the table has this value.

@@ -24,11 +24,10 @@ fn draw_number(file: &mut impl Iterator<Item = u8>) -> Result<usize, Refusal> {
     }
 }
 
-// Draws a list of points below the size, at least `least` of them.
-fn draw_list(file: &mut impl Iterator<Item = u8>, size: usize, least: usize) -> Result<Vec<usize>, Refusal> {
+// Draws a list of points below the size.
+fn draw_list(file: &mut impl Iterator<Item = u8>, size: usize) -> Result<Vec<usize>, Refusal> {
     let count = draw_number(file)?;
     require(count <= size, Refusal::Range)?;
-    require(count >= least, Refusal::EmptySet)?;
     let mut points: Vec<usize> = Vec::new();
     while points.len() < count {
         let number = draw_number(file)?;
@@ -48,8 +47,8 @@ pub fn parse(file: &[u8]) -> Result<Triple, Refusal> {
     let mut file = file.iter().copied();
     let n = draw_number(&mut file)?;
     taps(n)?;
-    let set = draw_list(&mut file, 1 << n, 1)?;
-    let table = draw_list(&mut file, 1 << n, 0)?;
+    let set = draw_list(&mut file, 1 << n)?;
+    let table = draw_list(&mut file, 1 << n)?;
     require(file.next().is_none(), Refusal::Surplus)?;
     Ok(Triple { n, set, table })
 }

@@ -8,16 +8,16 @@ use crate::rank::{choose, column_vectors, points_of, ranking, row, row_span};
 use crate::refusal::{CERTIFICATE, POINTS, Refusal, WORKSPACE, lengths, require, taps};
 use crate::span::{Bits, Span};
 
-// What Judge answers: for each d the ranks of S, part 1 and part 0; the degree, the side and the additions; side 1's
-// own degree and side 0's, where there is one; the mark of S.
+// What Judge answers: for each d the ranks of S, part 1 and part 0; the degree and the side, where there is one; the
+// additions; side 1's own degree and side 0's, and the mark of S, where there is one.
 #[derive(Clone, Debug, PartialEq, Eq)]
 pub struct Judgement {
     pub ranks: [[usize; 3]; 10],
-    pub degree: usize,
-    pub side: u8,
+    pub degree: Option<usize>,
+    pub side: Option<u8>,
     pub additions: u32,
     pub own_degrees: [Option<usize>; 2],
-    pub mark: usize,
+    pub mark: Option<usize>,
 }
 
 // The witness of a part that differs from the points at degree d: the exponents chosen.
@@ -50,13 +50,13 @@ pub fn judge(
         additions += found.additions;
     }
     let differs = |d: usize, i: usize| ranks[d][i] != ranks[d][0];
-    let degree = (0..=n).find(|d| differs(*d, 1) || differs(*d, 2)).expect("at n a part differs");
+    let degree = (0..=n).find(|d| differs(*d, 1) || differs(*d, 2));
     for (i, buffer) in [(1, one), (2, zero)] {
-        let found = differs(degree, i).then(|| witness(&lists[0], &lists[i], n, degree));
+        let found = degree.filter(|k| differs(*k, i)).map(|k| witness(&lists[0], &lists[i], n, k));
         choose(buffer, found.iter().flat_map(|exponents| exponents.places()));
     }
-    choose(kept, kept_points(&lists[0], n, degree));
-    let side = differs(degree, 1).into();
+    choose(kept, degree.into_iter().flat_map(|k| kept_points(&lists[0], n, k)));
+    let side = degree.map(|k| differs(k, 1).into());
     let own_degrees = [1, 2].map(|i| lowest_degree(n, &lists[0], &lists[i]));
     Ok(Judgement { ranks, degree, side, additions, own_degrees, mark: mark(n, &lists[0]) })
 }

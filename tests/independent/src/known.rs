@@ -1,7 +1,7 @@
 // Filters whose sides' own degrees are known without a Judge, for tests.
 use crate::filter::Filter;
 use crate::random::Random;
-use crate::samples::mask_of;
+use crate::samples::{NO_POINT, TABLES, mask_of};
 
 // A filter, and side 1's own degree and side 0's.
 pub struct Known {
@@ -41,10 +41,16 @@ impl Random {
         Known { n, set, table, own_degrees: [Some(1), Some(n)] }
     }
 
+    // A table of this kind on no point. No polynomial is one somewhere on the set.
+    fn on_no_point(&mut self, n: usize, kind: usize) -> Known {
+        Known { n, set: self.set(n, NO_POINT), table: self.table(n, kind), own_degrees: [None; 2] }
+    }
+
     // Such filters of n taps, with a set of every kind, each also with its sides exchanged.
     pub fn known(&mut self, n: usize) -> Vec<Known> {
         let mut filters = vec![self.single(n)];
         filters.extend([0, 1, 2, 3, 4, 5].map(|kind| self.constant(n, kind)));
+        filters.extend(TABLES.map(|kind| self.on_no_point(n, kind)));
         filters.into_iter().flat_map(|known| [known.exchanged(), known]).collect()
     }
 }

@@ -1,13 +1,13 @@
 // Sets whose marks are known without a rank, for tests.
 use crate::random::Random;
 use crate::rank::points_of;
-use crate::samples::of_weights;
+use crate::samples::{NO_POINT, of_weights};
 
-// A set of n taps, and its mark.
+// A set of n taps, and its mark, if it has one.
 pub struct KnownMark {
     pub n: usize,
     pub set: Vec<u8>,
-    pub mark: usize,
+    pub mark: Option<usize>,
 }
 
 // How many choices of k out of n there are.
@@ -25,7 +25,7 @@ impl KnownMark {
     fn of_weight(n: usize, k: usize) -> KnownMark {
         let exceeds = |d: &usize| 2 * rank_of_weight(n, k, *d) > choices(n, k);
         let mark = (0..=n).find(exceeds).expect("at n the rank is the number of points");
-        KnownMark { n, set: of_weights(n, 1 << k), mark }
+        KnownMark { n, set: of_weights(n, 1 << k), mark: Some(mark) }
     }
 }
 
@@ -36,12 +36,13 @@ impl Random {
     fn flat(&mut self, n: usize, kind: usize) -> KnownMark {
         let set = self.set(n, kind);
         let m = points_of(&set).len().ilog2() as usize;
-        KnownMark { n, set, mark: m.div_ceil(2) }
+        KnownMark { n, set, mark: Some(m.div_ceil(2)) }
     }
 
-    // Such sets of n taps: every weight, and flats of each kind.
+    // Such sets of n taps: every weight, flats of each kind, and no point, whose ranks do not exceed its number of points.
     pub fn known_marks(&mut self, n: usize) -> Vec<KnownMark> {
         let flats = [0, 3, 3, 3, 3, 4].map(|kind| self.flat(n, kind));
-        (0..=n).map(|k| KnownMark::of_weight(n, k)).chain(flats).collect()
+        let no_point = KnownMark { n, set: self.set(n, NO_POINT), mark: None };
+        (0..=n).map(|k| KnownMark::of_weight(n, k)).chain(flats).chain([no_point]).collect()
     }
 }

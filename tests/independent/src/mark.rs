@@ -1,7 +1,7 @@
-// The mark of a set of points, the first d at which twice the rank exceeds the number of points: docs/SPECIFICATION.md,
-// 'Judge'. Polynomials up to degree d have 2^r different tables on m points of rank r, and there are 2^m tables in all.
-// Of few taps those are counted, and of more a basis of the polynomials that are zero on the points; neither way looks
-// at a rank.
+// The mark of a set of points, the first d at which twice the rank exceeds the number of points, if there is one:
+// docs/SPECIFICATION.md, 'Judge'. Polynomials up to degree d have 2^r different tables on m points of rank r, and there
+// are 2^m tables in all. Of few taps those are counted, and of more a basis of the polynomials that are zero on the
+// points; neither way looks at a rank, nor at whether there is a point.
 use crate::annihilator::{FEW_TAPS, zero_on};
 use crate::normal_form::within;
 use crate::rank::columns;
@@ -20,19 +20,17 @@ fn count_tables(points: &[usize], n: usize, d: usize) -> usize {
 }
 
 // The mark by the tables: the first d at which the square of their number exceeds the number of all tables.
-pub fn mark_of_tables(n: usize, points: &[usize]) -> usize {
-    let exceeds = |d: &usize| count_tables(points, n, *d).pow(2) > 1 << points.len();
-    (0..=n).find(exceeds).expect("up to degree n there is every table")
+pub fn mark_of_tables(n: usize, points: &[usize]) -> Option<usize> {
+    (0..=n).find(|d| count_tables(points, n, *d).pow(2) > 1 << points.len())
 }
 
 // The same by bases: two polynomials have one table on the points exactly if they differ by one that is zero there. So
 // the number of tables is a power of 2: that of the exponents up to degree d less the size of a basis of those.
-pub fn mark_of_bases(n: usize, points: &[usize]) -> usize {
-    let exceeds = |d: &usize| 2 * (columns(n, *d).len() - zero_on(points, n, *d).len()) > points.len();
-    (0..=n).find(exceeds).expect("up to degree n there is every table")
+pub fn mark_of_bases(n: usize, points: &[usize]) -> Option<usize> {
+    (0..=n).find(|d| 2 * (columns(n, *d).len() - zero_on(points, n, *d).len()) > points.len())
 }
 
-// The mark of the points, of which there is at least one.
-pub fn mark(n: usize, points: &[usize]) -> usize {
+// The mark of the points, if they have one.
+pub fn mark(n: usize, points: &[usize]) -> Option<usize> {
     if n <= FEW_TAPS { mark_of_tables(n, points) } else { mark_of_bases(n, points) }
 }

@@ -3,7 +3,7 @@ use crate::filter_file::Triple;
 use crate::normal_form::weight;
 use crate::random::Random;
 use crate::rank::points_of;
-use crate::samples::LISTED_FILES;
+use crate::samples::{LISTED_FILES, NO_POINT, SETS, TABLES};
 
 // A file with its name.
 pub struct Named {
@@ -43,7 +43,7 @@ fn listed() -> impl Iterator<Item = Named> {
 }
 
 // The numbered cases of docs/SPECIFICATION.md, 'Cases', that are filters.
-fn numbered() -> [Named; 7] {
+fn numbered() -> [Named; 9] {
     [
         named("case-5", 2, |_| true, |a| a == 3),
         named("case-6", 3, |_| true, |a| weight(a) >= 2),
@@ -52,14 +52,17 @@ fn numbered() -> [Named; 7] {
         named("case-9", 1, |a| a == 0, |a| a == 0),
         named("case-10", 2, |a| a == 1 || a == 2, |a| a == 1),
         named("case-11", 4, |a| weight(a) == 2, |a| [3, 5, 6].contains(&a)),
+        named("case-12", 1, |_| false, |_| false),
+        named("case-13", 4, |_| false, |a| [3, 5, 6].contains(&a)),
     ]
 }
 
-const SETS: [&str; 6] = ["cube", "one-weight", "weights", "subspace", "point", "some-points"];
-const TABLES: [&str; 5] = ["majority", "zero", "one", "low-degree", "random"];
+// The names of the kinds of set and of table.
+const SET_NAMES: [&str; SETS.len()] = ["cube", "one-weight", "weights", "subspace", "point", "some-points", "no-point"];
+const TABLE_NAMES: [&str; TABLES.len()] = ["majority", "zero", "one", "low-degree", "random", "single"];
 
 // Taps, kind of set and kind of table of the filters that are drawn.
-const DRAWN: [(usize, usize, usize); 24] = [
+const DRAWN: [(usize, usize, usize); 28] = [
     (1, 0, 3),
     (1, 0, 2),
     (2, 0, 1),
@@ -84,6 +87,10 @@ const DRAWN: [(usize, usize, usize); 24] = [
     (9, 1, 4),
     (9, 0, 3),
     (9, 5, 2),
+    (2, NO_POINT, 0),
+    (5, NO_POINT, 1),
+    (8, NO_POINT, 2),
+    (9, NO_POINT, 4),
 ];
 
 // A filter of each of these kinds, always the same.
@@ -91,7 +98,7 @@ fn drawn() -> impl Iterator<Item = Named> {
     let mut random = Random(8);
     DRAWN.into_iter().map(move |(n, for_set, for_table)| {
         let (set, table) = (random.set(n, for_set), random.table(n, for_table));
-        let name = format!("taps-{n}-{}-{}", SETS[for_set], TABLES[for_table]);
+        let name = format!("taps-{n}-{}-{}", SET_NAMES[for_set], TABLE_NAMES[for_table]);
         Named { name, file: Triple { n, set: points_of(&set), table: points_of(&table) }.file() }
     })
 }
@@ -119,6 +126,7 @@ pub fn examples() -> Vec<Named> {
         named("points-0-to-16-of-five", 5, |a| a <= 16, |a| sum_of_products(5, a, &[&[2, 3], &[4, 5]])),
         named("nine-taps", 9, |_| true, |a| sum_of_products(9, a, &[&[1, 2], &[3]])),
         named("single-point", 6, |a| a == 42, |a| a == 42),
+        named("frozen-register", 4, |_| false, |a| [3, 5, 6].contains(&a)),
         damaged,
     ]
 }

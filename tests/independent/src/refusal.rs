@@ -12,7 +12,6 @@ pub enum Refusal {
     NumberForm = 3,
     Taps = 4,
     Range = 5,
-    EmptySet = 6,
     Surplus = 7,
     Bytes = 8,
     ZeroPolynomial = 9,

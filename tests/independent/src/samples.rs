@@ -5,6 +5,13 @@ use crate::random::Random;
 use crate::rank::points_of;
 use crate::refusal::POINTS;
 
+// The kind of set that has no point.
+pub const NO_POINT: usize = 6;
+
+// Every kind of set and every kind of table: `Random::set` and `Random::table` say what they are.
+pub const SETS: [usize; 7] = [0, 1, 2, 3, 4, 5, NO_POINT];
+pub const TABLES: [usize; 6] = [0, 1, 2, 3, 4, 5];
+
 impl Random {
     // A mask of n taps in which about `share` of every eight points are chosen.
     pub fn mask(&mut self, n: usize, share: usize) -> Vec<u8> {
@@ -25,30 +32,31 @@ impl Random {
         masks
     }
 
-    // A triple that a file can say: n, some points as the set, and points as the table.
+    // A triple that a file can say: n, points as the set, none at least one time in nine, and points as the table.
     pub fn triple(&mut self, n: usize) -> Triple {
-        let (for_set, for_table, sure) = (self.below(9), self.below(9), self.below(1 << n));
-        let mut set = self.mask(n, for_set);
-        set[sure] = 1;
-        let table = self.mask(n, for_table);
-        Triple { n, set: points_of(&set), table: points_of(&table) }
+        let (for_set, for_table) = (self.below(9), self.below(9));
+        let [set, table] = [for_set, for_table].map(|share| points_of(&self.mask(n, share)));
+        Triple { n, set, table }
     }
 
-    // A set of n taps with a point: the whole cube, one weight, some weights, a subspace moved, one point, or points
-    // at random, by kind.
+    // A set of n taps: the whole cube, one weight, some weights, a subspace moved, one point, points at random, at least
+    // one, or no point, by kind.
     pub fn set(&mut self, n: usize, kind: usize) -> Vec<u8> {
         let (point, share) = (self.below(1 << n), 1 + self.below(8));
         let weights = self.number() as usize | 1 << weight(point);
-        let mut set = match kind % 6 {
+        match kind % SETS.len() {
             0 => mask_of(n, |_| true),
             1 => of_weights(n, 1 << weight(point)),
             2 => of_weights(n, weights),
             3 => self.subspace(n, point),
             4 => mask_of(n, |a| a == point),
-            _ => self.mask(n, share),
-        };
-        set[point] = 1;
-        set
+            5 => {
+                let mut set = self.mask(n, share);
+                set[point] = 1;
+                set
+            }
+            _ => mask_of(n, |_| false),
+        }
     }
 
     // The sums of a point and some of a few random numbers.
@@ -61,10 +69,10 @@ impl Random {
         mask_of(n, |a| points.contains(&a))
     }
 
-    // A table of n taps: majority, a constant, of low degree, or at random, by kind.
+    // A table of n taps: majority, zero, one, of low degree, at random, or one at a single point, by kind.
     pub fn table(&mut self, n: usize, kind: usize) -> Vec<u8> {
         let (degree, share) = (1 + self.below(2), 1 + self.below(7));
-        match kind % 5 {
+        match kind % TABLES.len() {
             0 => mask_of(n, |a| 2 * weight(a) > n),
             1 => mask_of(n, |_| false),
             2 => mask_of(n, |_| true),
@@ -73,9 +81,18 @@ impl Random {
                 convert(&mut low, n).expect("coefficients of n taps");
                 low
             }
-            _ => self.mask(n, share),
+            4 => self.mask(n, share),
+            _ => {
+                let point = self.below(1 << n);
+                mask_of(n, |a| a == point)
+            }
         }
     }
+}
+
+// Every kind of set with every kind of table.
+pub fn kinds() -> Vec<(usize, usize)> {
+    pairs(&SETS, &TABLES)
 }
 
 // The mask of the points of n taps that are chosen.
@@ -129,8 +146,8 @@ pub fn pairs<A: Copy, B: Copy>(first: &[A], second: &[B]) -> Vec<(A, B)> {
 // The file of the sheet in docs/SPECIFICATION.md, 'Sheet': two taps, all points, f = x1x2.
 pub const PRINTED_FILE: [u8; 8] = [0x02, 0x04, 0x00, 0x01, 0x01, 0x01, 0x01, 0x03];
 
-// The files that docs/SPECIFICATION.md, 'Cases', lists, each with its refusal number, or 0 for the one that is read.
-pub const LISTED_FILES: [(&[u8], u8); 13] = [
+// The files that docs/SPECIFICATION.md, 'Cases', lists, each with its refusal number, or 0 for one that is read.
+pub const LISTED_FILES: [(&[u8], u8); 14] = [
     (&[], 2),
     (&[0x80], 2),
     (&[0x80, 0x80], 3),
@@ -139,9 +156,10 @@ pub const LISTED_FILES: [(&[u8], u8); 13] = [
     (&[0x0a], 4),
     (&[0x09], 2),
     (&[0x01, 0x03], 5),
-    (&[0x01, 0x00], 6),
+    (&[0x01, 0x00], 2),
     (&[0x02, 0x01, 0x04], 5),
     (&[0x02, 0x02, 0x01, 0x00], 5),
     (&[0x01, 0x01, 0x00, 0x00, 0x00], 7),
     (&[0x01, 0x01, 0x00, 0x00], 0),
+    (&[0x01, 0x00, 0x00], 0),
 ];

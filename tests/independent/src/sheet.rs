@@ -28,15 +28,24 @@ fn sum_lines(filter: Filter, side: u8, d: usize) -> Result<String, u8> {
     Ok(lines)
 }
 
-// The line with the degree, the side and that side's witness.
-fn degree_line(n: usize, judgement: &Judgement, witness: &[u8]) -> String {
-    let chosen = columns(n, n).into_iter().filter(|u| witness[*u] == 1);
-    format!("degree {} side {} witness{}\n", judgement.degree, judgement.side, spaced(chosen))
+// The number, or `none`.
+fn or_none(number: Option<usize>) -> String {
+    number.map_or("none".to_string(), |d| d.to_string())
+}
+
+// The line with the degree, and behind it the side and that side's witness, where there is a side.
+fn degree_line(n: usize, judgement: &Judgement, one: &[u8], zero: &[u8]) -> String {
+    let with_witness = |side: u8| {
+        let witness = if side == 1 { one } else { zero };
+        let chosen = columns(n, n).into_iter().filter(|u| witness[*u] == 1);
+        format!(" side {side} witness{}", spaced(chosen))
+    };
+    format!("degree {}{}\n", or_none(judgement.degree), judgement.side.map_or(String::new(), with_witness))
 }
 
 // The line with side 1's own degree and side 0's.
 fn sides_line(judgement: &Judgement) -> String {
-    let [one, zero] = judgement.own_degrees.map(|degree| degree.map_or("none".to_string(), |d| d.to_string()));
+    let [one, zero] = judgement.own_degrees.map(or_none);
     format!("sides {one} {zero}\n")
 }
 
@@ -47,13 +56,13 @@ fn accepted(file: &[u8]) -> Result<String, u8> {
     let [mut one, mut zero, mut kept] = [(); 3].map(|_| vec![0; POINTS]);
     let filter = Filter { n, set: &set, table: &table };
     let judgement = judge(filter, &mut vec![0; WORKSPACE], &mut one, &mut zero, &mut kept)?;
-    let mut sheet = format!("n {n} points {} mark {}\n", points_of(&set).len(), judgement.mark);
+    let mut sheet = format!("n {n} points {} mark {}\n", points_of(&set).len(), or_none(judgement.mark));
     for (d, [all, part_one, part_zero]) in judgement.ranks[..=n].iter().enumerate() {
         let _ = writeln!(sheet, "{d} {all} {part_one} {part_zero}");
     }
-    sheet += &degree_line(n, &judgement, if judgement.side == 1 { &one } else { &zero });
+    sheet += &degree_line(n, &judgement, &one, &zero);
     sheet += &sides_line(&judgement);
-    if let Some(d) = judgement.degree.checked_sub(1) {
+    if let Some(d) = judgement.degree.and_then(|k| k.checked_sub(1)) {
         sheet += &sum_lines(filter, 1, d)?;
         sheet += &sum_lines(filter, 0, d)?;
     }

@@ -1,13 +1,13 @@
 // Check of the independent implementation, against sums written out by hand, every certificate on few points, and what
 // polynomials say of the sums.
 use independent::certificate::turn;
-use independent::check::check;
+use independent::check::{Standard, check};
 use independent::filter::Filter;
 use independent::judgement::certify;
 use independent::other_sums::Dependencies;
 use independent::random::Random;
 use independent::rank::{points_of, row_span};
-use independent::samples::{mask_of, masks, pairs};
+use independent::samples::{NO_POINT, TABLES, kinds, mask_of, masks, pairs};
 
 // The certificate that names the listed points for each point beside them.
 fn of_sums(sums: &[(usize, &[usize])]) -> Vec<u64> {
@@ -111,7 +111,7 @@ fn try_every_side(n: usize, set: &[u8], table: &[u8]) {
 
 #[test]
 fn every_certificate_on_the_points_of_one_tap() {
-    for set in &masks(1)[1..] {
+    for set in &masks(1) {
         masks(1).iter().for_each(|table| try_every_side(1, set, table));
     }
 }
@@ -120,12 +120,13 @@ fn every_certificate_on_the_points_of_one_tap() {
 fn every_certificate_on_the_points_of_two_taps() {
     try_every_side(2, &mask_of(2, |_| true), &mask_of(2, |a| a == 3));
     try_every_side(2, &mask_of(2, |a| a != 1), &mask_of(2, |a| a <= 1));
+    try_every_side(2, &mask_of(2, |_| false), &mask_of(2, |a| a == 3));
 }
 
 #[test]
 fn certificates_of_every_kind_of_filter_and_other_sums() {
     let mut random = Random(1);
-    for (n, (for_set, for_table)) in pairs(&[3, 4, 5, 6, 7, 8, 9], &pairs(&[0, 1, 2, 3, 4, 5], &[0, 1, 2, 3, 4])) {
+    for (n, (for_set, for_table)) in pairs(&[1, 2, 3, 4, 5, 6, 7, 8, 9], &kinds()) {
         let (set, table) = (random.set(n, for_set), random.table(n, for_table));
         let filter = Filter { n, set: &set, table: &table };
         for (side, d) in (0..=n).flat_map(|d| [(1, d), (0, d)]) {
@@ -134,6 +135,23 @@ fn certificates_of_every_kind_of_filter_and_other_sums() {
             let other = random.other_sums(filter, side, d, &certificate);
             let answers = [certificate, other].map(|certificate| check(filter, side, d, &certificate));
             assert_eq!(answers, [Ok(equal); 2], "{filter:?}, side {side}, d = {d}");
+        }
+    }
+}
+
+#[test]
+fn on_no_point_zeros_are_the_only_certificate() {
+    let mut random = Random(2);
+    for (n, kind) in pairs(&[1, 2, 3, 4, 5, 6, 7, 8, 9], &TABLES) {
+        let (set, table) = (random.set(n, NO_POINT), random.table(n, kind));
+        for (side, d) in (0..=n).flat_map(|d| [(1, d), (0, d)]) {
+            let (standard, mut zeros) = (Standard::of(Filter { n, set: &set, table: &table }, side, d), vec![0; 4096]);
+            assert!(standard.right(&zeros), "n = {n}, table {table:?}, side {side}, d = {d}");
+            for (a, q) in (0..512).map(|a| (a, random.below(512))) {
+                turn(&mut zeros, a, q);
+                assert!(!standard.right(&zeros), "{q} named for {a}: n = {n}, table {table:?}, side {side}, d = {d}");
+                turn(&mut zeros, a, q);
+            }
         }
     }
 }
@@ -150,8 +168,9 @@ fn checks_come_in_order() {
     assert_eq!([0, 10, usize::MAX].map(|n| number(&broken, &broken, n, 2, 99, 4096)), [4, 4, 4]);
     assert_eq!([(&broken, &none), (&none, &broken)].map(|(s, t)| number(s, t, 9, 2, 99, 4096)), [8, 8]);
     assert_eq!([(&good, &none), (&none, &good)].map(|(s, t)| number(s, t, 8, 2, 99, 4096)), [8, 8]);
-    assert_eq!(number(&none, &good, 9, 2, 99, 4096), 6);
-    assert_eq!([10, usize::MAX].map(|d| number(&good, &good, 9, 2, d, 4096)), [10, 10]);
-    assert_eq!([2, 255].map(|side| number(&good, &good, 9, side, 9, 4096)), [11, 11]);
-    assert_eq!([1, 0].map(|side| number(&good, &good, 9, side, 9, 4096)), [0, 0]);
+    for set in [&good, &none] {
+        assert_eq!([10, usize::MAX].map(|d| number(set, &good, 9, 2, d, 4096)), [10, 10]);
+        assert_eq!([2, 255].map(|side| number(set, &good, 9, side, 9, 4096)), [11, 11]);
+        assert_eq!([1, 0].map(|side| number(set, &good, 9, side, 9, 4096)), [0, 0]);
+    }
 }

@@ -140,15 +140,17 @@ fn check_ranks(judgement: &Judgement, by_degree: &[Vec<Ranking>], sets: [usize; 
     assert_eq!(judgement.additions, additions, "sets {sets:?}");
 }
 
-// The mark of the set, from the ranks of every set at each degree.
+// The mark of the set, from the ranks of every set at each degree. A set has one exactly if it has a point.
 fn check_mark(judgement: &Judgement, by_degree: &[Vec<Ranking>], set: usize) {
     let mark = by_degree.iter().position(|all| 2 * all[set].rank > set.count_ones() as usize);
-    assert_eq!(Some(judgement.mark), mark, "set {set:b}");
+    assert_eq!(judgement.mark, mark, "set {set:b}");
+    assert_eq!(mark.is_some(), set != 0, "set {set:b}");
     assert!(judgement.degree <= judgement.mark, "set {set:b}: over the mark");
 }
 
 // Demand 3 about ranks, degree, side and witnesses for one set and table, the sides' own degrees, the mark, and the kept
-// points of the set at the reported degree.
+// points of the set at the reported degree. There is a degree exactly if the set has a point; without one there is no
+// side, no witness and no kept point.
 fn check_judgement(all: &[Polynomial], by_degree: &[Vec<Ranking>], n: usize, set: usize, table: usize) {
     let (judgement, witnesses, kept_of_set) = judged(n, set, table);
     let parts = [set & table, set & !table];
@@ -159,14 +161,15 @@ fn check_judgement(all: &[Polynomial], by_degree: &[Vec<Ranking>], n: usize, set
         let differs = judgement.ranks[d][i + 1] != judgement.ranks[d][0];
         assert_eq!(differs, least[i].is_some_and(|degree| degree <= d), "n {n} set {set:b} table {table:b} d {d}");
     }
-    let k = least.into_iter().flatten().min().expect("a polynomial cancels");
-    assert_eq!((judgement.degree, judgement.side == 1), (k, least[0] == Some(k)));
+    let lowest = least.into_iter().flatten().min();
+    assert_eq!(lowest.is_some(), set != 0, "n {n} set {set:b} table {table:b}");
+    assert_eq!((judgement.degree, judgement.side), (lowest, lowest.map(|k| u8::from(least[0] == Some(k)))));
     assert_eq!(judgement.own_degrees, least, "n {n} set {set:b} table {table:b}");
-    assert_eq!(kept_of_set, kept(n, set, k), "n {n} set {set:b} table {table:b}");
+    assert_eq!(kept_of_set, lowest.map_or(0, |k| kept(n, set, k)), "n {n} set {set:b} table {table:b}");
     for i in [0, 1] {
-        assert_eq!(witnesses[i], witness(all, n, set, parts[i], k));
+        assert_eq!(witnesses[i], lowest.map_or(0, |k| witness(all, n, set, parts[i], k)));
         let own = cancelling(all, set, parts[i]).find(|g| g.choice == witnesses[i]);
-        assert_eq!(own.map(|g| g.degree), least[i].filter(|degree| *degree == k));
+        assert_eq!(own.map(|g| g.degree), least[i].filter(|degree| Some(*degree) == lowest));
     }
 }
 
@@ -175,7 +178,7 @@ fn every_set_and_table_of_up_to_three_taps_judged() {
     for n in [1, 2, 3] {
         let (all, sets) = (polynomials(n), 1 << (1 << n));
         let by_degree: Vec<Vec<Ranking>> = (0..=n).map(|d| rankings(&all, n, d)).collect();
-        (1..sets).for_each(|set| (0..sets).for_each(|table| check_judgement(&all, &by_degree, n, set, table)));
+        (0..sets).for_each(|set| (0..sets).for_each(|table| check_judgement(&all, &by_degree, n, set, table)));
     }
 }
 
@@ -204,8 +207,8 @@ fn check_certificate(all: &[Polynomial], n: usize, [set, table]: [usize; 2], sid
 // The certificates of a side of every set and table of up to three taps at every degree.
 fn check_certificates(side: u8) {
     for n in [1, 2, 3] {
-        let (all, tables): (_, Vec<usize>) = (polynomials(n), (0..1 << (1 << n)).collect());
-        for (set, table) in pairs(&tables[1..], &tables) {
+        let (all, masks): (_, Vec<usize>) = (polynomials(n), (0..1 << (1 << n)).collect());
+        for (set, table) in pairs(&masks, &masks) {
             (0..=n).for_each(|d| check_certificate(&all, n, [set, table], side, d));
         }
     }

@@ -1,8 +1,9 @@
 // Read of the independent implementation, against the listed files and the files of triples.
 use independent::filter_file::{Triple, house_number, parse, read};
 use independent::random::Random;
+use independent::rank::points_of;
 use independent::refusal::Refusal;
-use independent::samples::{LISTED_FILES, PRINTED_FILE, mask_of};
+use independent::samples::{LISTED_FILES, PRINTED_FILE, TABLES, mask_of, pairs};
 
 #[test]
 fn the_listed_files() {
@@ -21,6 +22,19 @@ fn the_file_of_the_printed_sheet() {
 }
 
 #[test]
+fn a_count_of_no_points_is_read_of_either_list() {
+    let mut random = Random(2);
+    for (n, kind) in pairs(&[1, 2, 3, 4, 5, 6, 7, 8, 9], &TABLES) {
+        let points = points_of(&random.table(n, kind));
+        for (set, table) in [(vec![], points.clone()), (points, vec![])] {
+            let triple = Triple { n, set, table };
+            assert_eq!(parse(&triple.file()), Ok(triple));
+        }
+    }
+    assert_eq!(Triple { n: 1, set: vec![], table: vec![] }.file(), [1, 0, 0]);
+}
+
+#[test]
 fn the_file_of_a_triple_says_that_triple() {
     let mut random = Random(1);
     for triple in (0..9000).map(|i| random.triple(1 + i % 9)) {
@@ -34,7 +48,7 @@ fn a_file_that_is_read_is_the_file_of_what_it_says() {
     let mut read = 0;
     for code in 0..7usize.pow(7) {
         let file = [0, 1, 2, 3, 4, 5, 6].map(|i| [0, 1, 2, 3, 4, 0x81, 0x80][code / 7usize.pow(i) % 7]);
-        for length in 4..=7 {
+        for length in 3..=7 {
             if let Ok(triple) = parse(&file[..length]) {
                 assert_eq!(triple.file(), &file[..length]);
                 read += 1;

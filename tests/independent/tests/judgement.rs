@@ -7,7 +7,7 @@ use independent::kept::kept_points;
 use independent::normal_form::{convert, degree};
 use independent::random::Random;
 use independent::rank::{points_of, row, row_span};
-use independent::samples::{mask_of, pairs};
+use independent::samples::{TABLES, kinds, mask_of, pairs};
 use independent::span::Bits;
 
 // What Judge answered, the exponents of the witnesses of side 1 and side 0, and the kept points.
@@ -28,28 +28,28 @@ fn listed(n: usize, points: &[usize]) -> Vec<u8> {
 fn starred_case_5() {
     let (judgement, witnesses, kept) = judged(2, &mask_of(2, |_| true), &listed(2, &[3]));
     assert_eq!(judgement.ranks[..4], [[1, 1, 1], [3, 1, 3], [4, 1, 3], [0, 0, 0]]);
-    assert_eq!((judgement.degree, judgement.side, judgement.additions), (1, 1, 19));
-    assert_eq!((judgement.own_degrees, judgement.mark), ([Some(1), Some(2)], 1));
+    assert_eq!((judgement.degree, judgement.side, judgement.additions), (Some(1), Some(1), 19));
+    assert_eq!((judgement.own_degrees, judgement.mark), ([Some(1), Some(2)], Some(1)));
     assert_eq!((witnesses, kept), ([vec![0, 1], vec![]], vec![0, 1, 2]));
 }
 
 #[test]
 fn starred_cases_6_and_7() {
     let (majority, _, kept) = judged(3, &mask_of(3, |_| true), &listed(3, &[3, 5, 6, 7]));
-    assert_eq!((majority.ranks[1], majority.degree, majority.side, majority.mark), ([4, 4, 4], 2, 1, 2));
-    assert_eq!(kept, [0, 1, 2, 3, 4, 5, 6]);
+    assert_eq!((majority.ranks[1], majority.degree, majority.side), ([4, 4, 4], Some(2), Some(1)));
+    assert_eq!((majority.mark, kept), (Some(2), vec![0, 1, 2, 3, 4, 5, 6]));
     let (even, _, kept) = judged(4, &listed(4, &[0, 3, 5, 6, 9, 10, 12, 15]), &listed(4, &[6, 10, 12, 15]));
-    assert_eq!((even.ranks[1], even.degree, even.mark), ([4, 4, 4], 2, 2));
+    assert_eq!((even.ranks[1], even.degree, even.mark), ([4, 4, 4], Some(2), Some(2)));
     assert_eq!(kept, [0, 3, 5, 6, 9, 10, 12]);
 }
 
 #[test]
 fn starred_cases_8_and_9() {
     let (zero, witnesses, kept) = judged(1, &listed(1, &[0]), &listed(1, &[]));
-    assert_eq!((zero.degree, zero.side, zero.own_degrees, zero.mark), (0, 1, [Some(0), None], 0));
+    assert_eq!((zero.degree, zero.side, zero.own_degrees, zero.mark), (Some(0), Some(1), [Some(0), None], Some(0)));
     assert_eq!((witnesses, kept), ([vec![0], vec![]], vec![0]));
     let (one, witnesses, kept) = judged(1, &listed(1, &[0]), &listed(1, &[0]));
-    assert_eq!((one.degree, one.side, one.own_degrees, one.mark), (0, 0, [None, Some(0)], 0));
+    assert_eq!((one.degree, one.side, one.own_degrees, one.mark), (Some(0), Some(0), [None, Some(0)], Some(0)));
     assert_eq!((witnesses, kept), ([vec![], vec![0]], vec![0]));
 }
 
@@ -57,7 +57,7 @@ fn starred_cases_8_and_9() {
 fn starred_case_10() {
     let (judgement, witnesses, kept) = judged(2, &listed(2, &[1, 2]), &listed(2, &[1]));
     assert_eq!([0, 1, 2].map(|d| judgement.ranks[d][0]), [1, 2, 2]);
-    assert_eq!((judgement.degree, judgement.mark, &witnesses[0][..]), (1, 1, &[0, 1][..]));
+    assert_eq!((judgement.degree, judgement.mark, &witnesses[0][..]), (Some(1), Some(1), &[0, 1][..]));
     assert_eq!(kept, [1, 2]);
 }
 
@@ -65,8 +65,31 @@ fn starred_case_10() {
 fn case_11() {
     let (judgement, witnesses, kept) = judged(4, &listed(4, &[3, 5, 6, 9, 10, 12]), &listed(4, &[3, 5, 6]));
     assert_eq!([0, 1, 2, 3, 4].map(|d| judgement.ranks[d][0]), [1, 4, 6, 6, 6]);
-    assert_eq!((judgement.mark, judgement.degree, &witnesses[0][..]), (1, 1, &[1, 2, 4][..]));
+    assert_eq!((judgement.mark, judgement.degree, &witnesses[0][..]), (Some(1), Some(1), &[1, 2, 4][..]));
     assert_eq!(kept, [3, 5, 6, 9]);
+}
+
+// On no point every rank is 0, there is no degree, no side and no mark, and nothing is left in the buffers.
+fn check_no_point(n: usize, table: &[u8]) {
+    let (judgement, witnesses, kept) = judged(n, &listed(n, &[]), table);
+    assert_eq!((judgement.ranks, judgement.additions), ([[0; 3]; 10], 0), "n = {n}, table {table:?}");
+    assert_eq!((judgement.degree, judgement.side), (None, None), "n = {n}, table {table:?}");
+    assert_eq!((judgement.own_degrees, judgement.mark), ([None; 2], None), "n = {n}, table {table:?}");
+    assert_eq!((witnesses, kept), ([vec![], vec![]], vec![]), "n = {n}, table {table:?}");
+}
+
+#[test]
+fn cases_12_and_13() {
+    check_no_point(1, &listed(1, &[]));
+    check_no_point(4, &listed(4, &[3, 5, 6]));
+}
+
+#[test]
+fn on_no_point_of_every_n_with_every_kind_of_table_there_is_no_degree() {
+    let mut random = Random(2);
+    for (n, kind) in pairs(&[1, 2, 3, 4, 5, 6, 7, 8, 9], &TABLES) {
+        check_no_point(n, &random.table(n, kind));
+    }
 }
 
 // The exponents are a polynomial of degree k that is zero on the part and not on all of the set.
@@ -93,30 +116,34 @@ fn check_certificate(filter: Filter, side: u8, d: usize, [set, part]: [&[usize];
 }
 
 // The witnesses of the filter; its certificates at the degree before the reported one, which is not over the mark; and the
-// kept points at the reported one, as many as the rank of the set, which is theirs too.
+// kept points at the reported one, as many as the rank of the set, which is theirs too. There is a degree exactly if the
+// set has a point. Without one nothing is kept and no side has a witness, and there are certificates up to degree n.
 fn check_judgement(n: usize, set: &[u8], table: &[u8]) {
     let (judgement, witnesses, kept) = judged(n, set, table);
-    let (k, points) = (judgement.degree, points_of(set));
-    assert!(k <= judgement.mark, "over the mark: n = {n}, points {points:?}");
+    let (degree, points) = (judgement.degree, points_of(set));
+    let found = [degree.is_some(), judgement.side.is_some(), judgement.mark.is_some()];
+    assert_eq!(found, [!points.is_empty(); 3], "n = {n}, points {points:?}");
+    assert!(degree <= judgement.mark, "over the mark: n = {n}, points {points:?}");
     assert!(kept.iter().all(|a| set[*a] == 1), "kept outside the set: n = {n}, points {points:?}");
-    assert_eq!([kept.len(), row_span(&kept, k).rank()], [judgement.ranks[k][0]; 2], "n = {n}, points {points:?}");
+    if let Some(k) = degree {
+        assert_eq!([kept.len(), row_span(&kept, k).rank()], [judgement.ranks[k][0]; 2], "n = {n}, points {points:?}");
+    }
     for (side, witness) in [1, 0].into_iter().zip(&witnesses) {
         let part: Vec<usize> = points.iter().copied().filter(|a| table[*a] == side).collect();
-        if judgement.ranks[k][2 - usize::from(side)] == judgement.ranks[k][0] {
-            assert!(witness.is_empty());
-        } else {
-            check_witness(n, witness, k, [&points, &part]);
+        match degree.filter(|k| judgement.ranks[*k][2 - usize::from(side)] != judgement.ranks[*k][0]) {
+            Some(k) => check_witness(n, witness, k, [&points, &part]),
+            None => assert!(witness.is_empty()),
         }
-        if k > 0 {
-            check_certificate(Filter { n, set, table }, side, k - 1, [&points, &part]);
+        if let Some(d) = degree.map_or(Some(n), |k| k.checked_sub(1)) {
+            check_certificate(Filter { n, set, table }, side, d, [&points, &part]);
         }
     }
 }
 
 #[test]
-fn witnesses_and_certificates_of_every_kind_of_filter_of_four_to_nine_taps() {
+fn witnesses_and_certificates_of_every_kind_of_filter_of_every_n() {
     let mut random = Random(1);
-    for (n, (for_set, for_table)) in pairs(&[4, 5, 6, 7, 8, 9], &pairs(&[0, 1, 2, 3, 4, 5], &[0, 1, 2, 3, 4])) {
+    for (n, (for_set, for_table)) in pairs(&[1, 2, 3, 4, 5, 6, 7, 8, 9], &kinds()) {
         let (set, table) = (random.set(n, for_set), random.table(n, for_table));
         check_judgement(n, &set, &table);
     }
@@ -143,7 +170,8 @@ fn judge_checks_in_order() {
     }
     assert_eq!(number(&broken, &broken, 10, right), 4);
     assert_eq!([(&broken, &none), (&none, &broken)].map(|(s, t)| number(s, t, 9, right)), [8, 8]);
-    assert_eq!([(&none, &good), (&good, &none)].map(|(s, t)| number(s, t, 9, right)), [6, 0]);
+    assert_eq!([(&good, &none), (&none, &good)].map(|(s, t)| number(s, t, 8, right)), [8, 8]);
+    assert_eq!([(&none, &good), (&good, &none)].map(|(s, t)| number(s, t, 9, right)), [0, 0]);
 }
 
 #[test]
@@ -161,11 +189,11 @@ fn certify_checks_in_order() {
     assert_eq!(number(&none, 0, 2, 9, 4095), 1);
     assert_eq!(number(&none, 0, 2, 9, 4096), 4);
     assert_eq!(number(&vec![2; 512], 2, 2, 9, 4096), 8);
-    assert_eq!(number(&none, 2, 2, 9, 4096), 6);
-    assert_eq!(number(&set, 2, 2, 3, 4096), 10);
-    assert_eq!(number(&set, 2, 2, 2, 4096), 11);
+    assert_eq!([&set, &none].map(|set| number(set, 2, 2, 3, 4096)), [10, 10]);
+    assert_eq!([&set, &none].map(|set| number(set, 2, 2, 2, 4096)), [11, 11]);
     assert_eq!([0, 1, 2].map(|d| number(&set, 2, 1, d, 4096)), [0, 12, 12]);
     assert_eq!([0, 1, 2].map(|d| number(&set, 2, 0, d, 4096)), [0, 0, 12]);
+    assert_eq!([0, 1, 2].map(|d| [0, 1].map(|side| number(&none, 2, side, d, 4096))), [[0, 0]; 3]);
 }
 
 #[test]

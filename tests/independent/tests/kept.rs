@@ -40,7 +40,7 @@ fn all_ways_agree_on_every_mask_of_up_to_three_taps_at_every_degree() {
 #[test]
 fn both_ways_agree_on_masks_of_four_taps_drawn_at_random() {
     let mut random = Random(1);
-    for (share, d) in pairs(&[1, 2, 3, 4, 5, 6], &[0, 1, 2, 3, 4].repeat(20)) {
+    for (share, d) in pairs(&[0, 1, 2, 3, 4, 5, 6], &[0, 1, 2, 3, 4].repeat(20)) {
         let points = points_of(&random.mask(4, share));
         assert_eq!(kept_of_columns(&points, 4, d), kept_of_sums(&points, d), "d = {d}, points {points:?}");
     }
@@ -49,7 +49,7 @@ fn both_ways_agree_on_masks_of_four_taps_drawn_at_random() {
 #[test]
 fn the_ranks_of_the_points_up_to_each_rise_at_the_kept_points_of_five_to_nine_taps() {
     let mut random = Random(2);
-    for (n, count) in pairs(&[5, 6, 7, 8, 9], &[8, 16, 24, 32, 48].repeat(4)) {
+    for (n, count) in pairs(&[5, 6, 7, 8, 9], &[0, 8, 16, 24, 32, 48].repeat(4)) {
         let (points, d) = (points_of(&mask_of(n, |_| random.below(1 << n) < count)), random.below(n + 1));
         assert_eq!(kept_points(&points, n, d), by_ranks(&points, d), "n = {n}, d = {d}, points {points:?}");
     }

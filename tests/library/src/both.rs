@@ -79,8 +79,9 @@ pub fn rank(
     answer.map(|found| (found, kept))
 }
 
-// Judge, lent buffers of these lengths: the answer, and the mask of the kept points. The reported degree is not over the
-// mark.
+// Judge, lent buffers of these lengths: the answer, and the mask of the kept points. There is a degree, a side, an own
+// degree of a side and a mark exactly where the set has a point, and the degree is not over the mark. On no point the
+// witness buffers and the mask are zero.
 pub fn judge(
     random: &mut Random,
     filter: Filter,
@@ -92,9 +93,13 @@ pub fn judge(
         let Buffers { words: [workspace], bytes: [one, zero, kept] } = lent;
         lend(filter, |filter| judge(filter, workspace, one, zero, kept))
     });
-    let [_, _, kept] = exit.bytes;
-    let found = answer?;
+    let (found, has_point) = (answer?, filter.set.contains(&1));
+    let own_degree = found.own_degrees.into_iter().flatten().min();
+    let there = [found.degree, found.side.map(usize::from), own_degree, found.mark].map(|number| number.is_some());
+    assert_eq!(there, [has_point; 4], "degree, side, own degree, mark: Judge of {filter:?}");
     assert!(found.degree <= found.mark, "over the mark: Judge of {filter:?}");
+    assert!(has_point || exit.bytes == [[0; 512]; 3], "a byte left on no point: Judge of {filter:?}");
+    let [_, _, kept] = exit.bytes;
     Ok((found, kept))
 }
 

@@ -30,25 +30,32 @@ const ADDITIONS_AT: usize = 32;
 const OWN_DEGREES_AT: [usize; 2] = [33, 34];
 const MARK_AT: usize = 35;
 
-// The number for a side that has no degree of its own.
+// The numbers for no degree, no mark and no own degree of a side, and for no side.
 const NO_DEGREE: u32 = 10;
+const NO_SIDE: u32 = 2;
 
-// A side's own degree, which is at most n, or none.
-fn own_degree(number: u32, n: usize) -> Option<usize> {
+// A degree, a mark or a side's own degree, which is at most n, or none.
+fn degree(number: u32, n: usize) -> Option<usize> {
     let degree = (number != NO_DEGREE).then_some(number as usize);
     assert!(degree.is_none_or(|d| d <= n), "{number} is no degree of {n} taps");
     degree
+}
+
+// A side, or none.
+fn side(number: u32) -> Option<u8> {
+    assert!(number <= NO_SIDE, "{number} is no side");
+    (number != NO_SIDE).then_some(number as u8)
 }
 
 // What a report of n taps says: each of its numbers is read.
 fn judgement(report: [u32; REPORT], n: usize) -> Judgement {
     Judgement {
         ranks: std::array::from_fn(|d| RANKS_AT.map(|i| report[RANKS_OF_DEGREE * d + i] as usize)),
-        degree: report[DEGREE_AT] as usize,
-        side: report[SIDE_AT].try_into().expect("a side"),
+        degree: degree(report[DEGREE_AT], n),
+        side: side(report[SIDE_AT]),
         additions: report[ADDITIONS_AT],
-        own_degrees: OWN_DEGREES_AT.map(|i| own_degree(report[i], n)),
-        mark: report[MARK_AT] as usize,
+        own_degrees: OWN_DEGREES_AT.map(|i| degree(report[i], n)),
+        mark: degree(report[MARK_AT], n),
     }
 }
 

@@ -6,7 +6,7 @@ use independent::filter::Filter;
 use independent::lent::lend;
 use independent::random::Random;
 use independent::rank::points_of;
-use independent::samples::{masks, pairs};
+use independent::samples::{TABLES, kinds, masks, pairs};
 use std::hint::black_box;
 
 // Check of the library: the set, the table and the certificate are as they were.
@@ -85,7 +85,7 @@ fn compare(random: &mut Random, n: usize, set: &[u8], table: &[u8]) {
 fn certificates_and_other_sums_get_a_yes_on_every_set_and_table_of_one_and_two_taps() {
     let mut random = Random(1);
     for n in [1, 2] {
-        for set in &masks(n)[1..] {
+        for set in &masks(n) {
             masks(n).iter().for_each(|table| compare(&mut random, n, set, table));
         }
     }
@@ -94,8 +94,8 @@ fn certificates_and_other_sums_get_a_yes_on_every_set_and_table_of_one_and_two_t
 #[test]
 fn certificates_and_other_sums_get_a_yes_on_every_set_of_three_taps_with_every_kind_of_table() {
     let mut random = Random(2);
-    for set in &masks(3)[1..] {
-        let tables = [0, 1, 2, 3, 4].map(|kind| random.table(3, kind));
+    for set in &masks(3) {
+        let tables = TABLES.map(|kind| random.table(3, kind));
         tables.iter().for_each(|table| compare(&mut random, 3, set, table));
     }
 }
@@ -103,7 +103,7 @@ fn certificates_and_other_sums_get_a_yes_on_every_set_of_three_taps_with_every_k
 // A filter of each kind of set and each kind of table, of each of these taps.
 fn compare_kinds(seed: u64, taps: &[usize]) {
     let mut random = Random(seed);
-    for (n, (for_set, for_table)) in pairs(taps, &pairs(&[0, 1, 2, 3, 4, 5], &[0, 1, 2, 3, 4])) {
+    for (n, (for_set, for_table)) in pairs(taps, &kinds()) {
         let (set, table) = (random.set(n, for_set), random.table(n, for_table));
         compare(&mut random, n, &set, &table);
     }
@@ -136,5 +136,5 @@ fn compare_call(random: &mut Random, filter: Filter, asked: &Asked) -> Result<()
 #[test]
 fn every_refusal_and_every_pair_of_them_in_order() {
     let operation = |random: &mut Random, call: &Call<Asked>| compare_call(random, call.filter(), &call.own);
-    assert_eq!(lend_faults(5, Asked::good, &CERTIFICATE_FAULTS, operation), [0, 1, 4, 6, 8, 10, 11]);
+    assert_eq!(lend_faults(5, Asked::good, &CERTIFICATE_FAULTS, operation), [0, 1, 4, 8, 10, 11]);
 }

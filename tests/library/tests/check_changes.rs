@@ -6,7 +6,7 @@ use independent::filter::Filter;
 use independent::other_sums::Dependencies;
 use independent::random::Random;
 use independent::rank::{columns, row, row_span};
-use independent::samples::{mask_of, masks, pairs};
+use independent::samples::{NO_POINT, TABLES, kinds, mask_of, masks, pairs};
 use independent::span::{Bits, Span};
 use std::hint::black_box;
 use std::thread;
@@ -130,12 +130,12 @@ fn right_after_two(sound: &mut Sound) -> usize {
     twos.filter(|(one, other)| sound.stays_right(&[*one, *other])).count()
 }
 
-// Every set with a point and every table of one and two taps.
+// Every set and every table of one and two taps.
 fn filters_of_few_taps() -> Vec<(usize, Vec<u8>, Vec<u8>)> {
     let mut filters = Vec::new();
     for n in [1, 2] {
         let masks = masks(n);
-        masks[1..].iter().for_each(|set| filters.extend(masks.iter().map(|table| (n, set.clone(), table.clone()))));
+        masks.iter().for_each(|set| filters.extend(masks.iter().map(|table| (n, set.clone(), table.clone()))));
     }
     filters
 }
@@ -147,7 +147,7 @@ fn two_bits_changed_lead_to_the_independent_answer_on_every_set_and_table_of_one
         certificates(Filter { n: *n, set, table }).for_each(|mut sound| right.push(right_after_two(&mut sound)));
     }
     let of_all: usize = right.iter().sum();
-    assert_eq!((right.len(), of_all), (642, 96), "at degree 0, where all points of the part have the same row");
+    assert_eq!((right.len(), of_all), (754, 96), "at degree 0, where all points of the part have the same row");
 }
 
 // Every bit of every certificate of every second filter of one and two taps changed.
@@ -159,15 +159,43 @@ fn break_every_second(first: usize) {
 
 #[test]
 fn one_bit_changed_leads_to_a_no_wherever_it_stands_on_every_set_and_table_of_one_and_two_taps() {
-    // 168 million calls: each of two threads takes every second filter
+    // 198 million calls: each of two threads takes every second filter
     thread::scope(|scope| [0, 1].map(|first| drop(scope.spawn(move || break_every_second(first)))));
+}
+
+// Certify of no point writes zeros, of each side at each degree; one bit changed leads to a no, and so do two.
+#[test]
+fn on_no_point_of_every_n_one_bit_or_two_in_every_row_lead_to_a_no() {
+    let mut random = Random(8);
+    for (n, kind) in pairs(&[1, 2, 3, 4, 5, 6, 7, 8, 9], &TABLES) {
+        let (set, table) = (random.set(n, NO_POINT), random.table(n, kind));
+        let sounds: Vec<Sound> = certificates(Filter { n, set: &set, table: &table }).collect();
+        assert_eq!(sounds.len(), 2 * (n + 1), "n = {n}, table {table:?}");
+        for mut sound in sounds {
+            assert!(sound.certificate.iter().all(|number| *number == 0), "n = {n}, table {table:?}");
+            for a in 0..512 {
+                let [b, p, q] = [(); 3].map(|_| random.below(512));
+                sound.break_at((a, q));
+                assert!(p == q || !sound.stays_right(&[(a, q), (a, p)]));
+                assert!(b == a || !sound.stays_right(&[(a, q), (b, q)]));
+            }
+        }
+    }
+}
+
+#[test]
+fn on_no_point_of_nine_taps_one_bit_leads_to_a_no_wherever_it_stands() {
+    let (set, table) = (mask_of(9, |_| false), Random(9).table(9, 4));
+    let found = certificates(Filter { n: 9, set: &set, table: &table });
+    found.filter(|sound| [0, 9].contains(&sound.d)).for_each(|mut sound| sound.break_all());
 }
 
 #[test]
 fn there_are_as_many_right_certificates_on_the_points_of_two_taps_as_choices_of_dependencies() {
-    let set = mask_of(2, |_| true);
-    for table in [mask_of(2, |a| a == 3), mask_of(2, |a| a == 1 || a == 2)] {
-        for mut sound in certificates(Filter { n: 2, set: &set, table: &table }) {
+    let sets = [mask_of(2, |_| true), mask_of(2, |_| false)];
+    let tables = [mask_of(2, |a| a == 3), mask_of(2, |a| a == 1 || a == 2)];
+    for (set, table) in pairs(&sets.each_ref(), &tables.each_ref()) {
+        for mut sound in certificates(Filter { n: 2, set, table }) {
             let changed = |bits: usize| (0..16).filter(|i| bits >> i & 1 == 1).map(|i| (i / 4, i % 4)).collect();
             let changes: Vec<Vec<Place>> = (0..1 << 16).map(changed).collect();
             let right = changes.iter().filter(|places| sound.stays_right(places)).count();
@@ -181,8 +209,7 @@ fn there_are_as_many_right_certificates_on_the_points_of_two_taps_as_choices_of_
 // each: as Certify writes it, or with other sums.
 fn for_each_drawn(seed: u64, taps: &[usize], count: usize, mut change: impl FnMut(&mut Random, Sound)) {
     let mut random = Random(seed);
-    let kinds = pairs(&[0, 1, 2, 3, 4, 5], &[0, 1, 2, 3, 4]);
-    for (n, (for_set, for_table)) in pairs(taps, &kinds.repeat(count)) {
+    for (n, (for_set, for_table)) in pairs(taps, &kinds().repeat(count)) {
         let (set, table) = (random.set(n, for_set), random.table(n, for_table));
         for mut sound in certificates(Filter { n, set: &set, table: &table }).filter(|sound| sound.has_sum()) {
             if random.below(2) == 1 {

@@ -2,7 +2,8 @@
 use independent::filter::Filter;
 use independent::filter_file::{Triple, house_number, read};
 use independent::random::Random;
-use independent::samples::{LISTED_FILES, Tally, mask_of, pairs};
+use independent::rank::points_of;
+use independent::samples::{LISTED_FILES, TABLES, Tally, mask_of, pairs};
 use independent::stored::{root, stored};
 use std::fs;
 use std::hint::black_box;
@@ -89,8 +90,8 @@ fn the_stored_files() {
     for stored in stored().iter().filter(|stored| stored.is_filter_file()) {
         comparison.file(&fs::read(root().join(&stored.path)).expect("the stored file"));
     }
-    assert_eq!(comparison.tally.numbers(1), [0, 2, 3, 4, 5, 6, 7]);
-    assert_eq!(comparison.tally.numbers(41), [0]);
+    assert_eq!(comparison.tally.numbers(1), [0, 2, 3, 4, 5, 7]);
+    assert_eq!(comparison.tally.numbers(49), [0]);
 }
 
 #[test]
@@ -101,7 +102,10 @@ fn valid_files_of_every_n_are_read_in_full() {
         let mut triples: Vec<Triple> = (0..2000).map(|_| comparison.random.triple(n)).collect();
         triples.push(Triple { n, set: all.clone(), table: all.clone() });
         triples.push(Triple { n, set: all.clone(), table: vec![] });
+        triples.push(Triple { n, set: vec![], table: all.clone() });
+        triples.push(Triple { n, set: vec![], table: vec![] });
         triples.extend(all.iter().map(|a| Triple { n, set: vec![*a], table: vec![(1 << n) - 1 - a] }));
+        triples.extend(all.iter().map(|a| Triple { n, set: vec![], table: vec![*a] }));
         for triple in triples {
             let (number, buffers) = comparison.lend(&triple.file(), [512, 512]);
             assert_eq!(number, 0);
@@ -114,7 +118,18 @@ fn valid_files_of_every_n_are_read_in_full() {
 fn short_files_damaged_at_every_place_by_every_byte() {
     let (mut comparison, values): (_, Vec<u8>) = (Comparison::new(3), (0..=255).collect());
     comparison.damage_files(1..=4, 12, &values);
-    assert_eq!(comparison.tally.numbers(100), [0, 2, 3, 4, 5, 6, 7]);
+    assert_eq!(comparison.tally.numbers(100), [0, 2, 3, 4, 5, 7]);
+}
+
+#[test]
+fn files_of_no_point_of_every_n_damaged_at_every_place_by_every_byte() {
+    let (mut comparison, values): (_, Vec<u8>) = (Comparison::new(10), (0..=255).collect());
+    for (n, kind) in pairs(&[1, 2, 3, 4, 5, 6, 7, 8, 9], &TABLES) {
+        let file = Triple { n, set: vec![], table: points_of(&comparison.random.table(n, kind)) }.file();
+        assert_eq!(comparison.file(&file), 0, "{file:02x?}");
+        (0..file.len().min(6)).for_each(|place| comparison.damage(&file, place, &values));
+    }
+    assert_eq!(comparison.tally.numbers(100), [0, 2, 3, 4, 5, 7]);
 }
 
 #[test]
@@ -145,7 +160,7 @@ fn every_number_of_a_file_replaced_by_numbers_of_one_and_two_groups() {
             }
         }
     }
-    assert_eq!(comparison.tally.numbers(50), [0, 2, 3, 4, 5, 6, 7]);
+    assert_eq!(comparison.tally.numbers(50), [0, 2, 3, 4, 5, 7]);
 }
 
 #[test]
@@ -161,7 +176,7 @@ fn every_file_of_up_to_two_bytes_and_of_six_bytes_that_matter() {
         let file = [0, 1, 2, 3, 4, 5].map(|i| [0, 1, 2, 3, 0x80, 0x81][code / 6usize.pow(i) % 6]);
         comparison.file(&file);
     }
-    assert_eq!(comparison.tally.numbers(10), [0, 2, 3, 4, 5, 6, 7]);
+    assert_eq!(comparison.tally.numbers(10), [0, 2, 3, 4, 5, 7]);
 }
 
 #[test]

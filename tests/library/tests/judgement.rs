@@ -4,7 +4,7 @@ use independent::filter::Filter;
 use independent::judgement::Judgement;
 use independent::lent::{MARGIN, margins_stay, middle};
 use independent::random::Random;
-use independent::samples::{mask_of, pairs};
+use independent::samples::{NO_POINT, TABLES, kinds, mask_of, pairs};
 use library::both::{CERTIFY_LENGTHS, JUDGE_LENGTHS, certify, judge};
 
 const SIDES: [u8; 2] = [1, 0];
@@ -43,13 +43,13 @@ fn compare_sets(seed: u64, n: usize, sets: impl Iterator<Item = usize>) {
 
 #[test]
 fn every_set_and_table_of_one_and_two_taps() {
-    compare_sets(1, 1, 1..4);
-    compare_sets(2, 2, 1..16);
+    compare_sets(1, 1, 0..4);
+    compare_sets(2, 2, 0..16);
 }
 
 #[test]
 fn every_set_of_three_taps_without_the_point_7_and_every_table() {
-    compare_sets(3, 3, 1..128);
+    compare_sets(3, 3, 0..128);
 }
 
 #[test]
@@ -61,11 +61,11 @@ fn every_set_of_three_taps_with_the_point_7_and_every_table() {
 // mark is half of the taps, rounded up.
 fn compare_kinds(seed: u64, n: usize, count: usize) {
     let mut random = Random(seed);
-    for (for_set, for_table) in pairs(&[0, 1, 2, 3, 4, 5], &[0, 1, 2, 3, 4]) {
+    for (for_set, for_table) in kinds() {
         for _ in 0..count {
             let (set, table) = (random.set(n, for_set), random.table(n, for_table));
             let judgement = compare(&mut random, n, &set, &table);
-            assert!(judgement.mark == n.div_ceil(2) || for_set != 0, "the mark of all points, n = {n}");
+            assert!(judgement.mark == Some(n.div_ceil(2)) || for_set != 0, "the mark of all points, n = {n}");
         }
     }
 }
@@ -92,7 +92,25 @@ fn every_kind_of_filter_of_nine_taps() {
 fn starred_case_7() {
     let [set, table] = [&[0, 3, 5, 6, 9, 10, 12, 15][..], &[6, 10, 12, 15]].map(|s| mask_of(4, |a| s.contains(&a)));
     let judgement = compare(&mut Random(11), 4, &set, &table);
-    assert_eq!((judgement.ranks[1], judgement.degree), ([4, 4, 4], 2));
+    assert_eq!((judgement.ranks[1], judgement.degree), ([4, 4, 4], Some(2)));
+}
+
+// What Judge answers on no point.
+const NOTHING: Judgement =
+    Judgement { ranks: [[0; 3]; 10], degree: None, side: None, additions: 0, own_degrees: [None; 2], mark: None };
+
+#[test]
+fn on_no_point_of_every_n_judge_answers_none_and_certify_writes_zeros_with_every_kind_of_table() {
+    let mut random = Random(16);
+    for (n, kind) in pairs(&[1, 2, 3, 4, 5, 6, 7, 8, 9], &TABLES.repeat(3)) {
+        let (set, table) = (random.set(n, NO_POINT), random.table(n, kind));
+        let filter = Filter { n, set: &set, table: &table };
+        assert_eq!(compare(&mut random, n, &set, &table), NOTHING, "Judge of {filter:?}");
+        for (d, side) in (0..=n).flat_map(|d| SIDES.map(|side| (d, side))) {
+            let (answer, certificate) = certify(&mut random, filter, side, d, CERTIFY_LENGTHS);
+            assert!(answer.is_ok() && certificate == [0; 4096], "Certify of {filter:?}, side {side}, d = {d}");
+        }
+    }
 }
 
 #[test]
@@ -129,7 +147,7 @@ fn every_refusal_of_judge_and_every_pair_of_them_in_order() {
         let ([one, zero], own) = (call.own.witnesses, &call.own);
         judge(random, call.filter(), [own.workspace, one, zero, own.kept]).map(|_| ())
     });
-    assert_eq!(numbers, [0, 1, 4, 6, 8]);
+    assert_eq!(numbers, [0, 1, 4, 8]);
 }
 
 #[test]
@@ -139,14 +157,14 @@ fn every_refusal_of_certify_and_every_pair_of_them_in_order() {
         let (own, filter) = (&call.own, call.filter());
         lend_certify(random, filter, own.side, own.d, [own.workspace, own.certificate])
     });
-    assert_eq!(numbers, [0, 1, 4, 6, 8, 10, 11, 12]);
+    assert_eq!(numbers, [0, 1, 4, 8, 10, 11, 12]);
 }
 
 #[test]
 fn nothing_outside_the_lent_buffers_is_written() {
     let mut random = Random(14);
-    for n in 1..=9 {
-        let (set, table) = (random.set(n, 0), random.table(n, 0));
+    for (n, kind) in pairs(&[1, 2, 3, 4, 5, 6, 7, 8, 9], &[0, NO_POINT]) {
+        let (set, table) = (random.set(n, kind), random.table(n, 0));
         let filter = Filter { n, set: &set, table: &table };
         let words = [8192, 4096].map(|length| random.words(MARGIN + length + MARGIN));
         let bytes = [512; 3].map(|length| random.bytes(MARGIN + length + MARGIN));

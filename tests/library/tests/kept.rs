@@ -6,7 +6,7 @@ use independent::lent::{MARGIN, margins_stay, middle};
 use independent::normal_form::weight;
 use independent::random::Random;
 use independent::rank::{Ranking, points_of};
-use independent::samples::{mask_of, masks, pairs};
+use independent::samples::{NO_POINT, TABLES, kinds, mask_of, masks, pairs};
 use library::both::{JUDGE_LENGTHS, RANK_LENGTHS, judge, rank};
 
 // What Rank answers, and the mask of the kept points, which held other bytes.
@@ -45,7 +45,7 @@ fn ranked_again_every_mask_of_up_to_three_taps_keeps_its_kept_points() {
 #[test]
 fn ranked_again_masks_of_four_to_nine_taps_keep_their_kept_points() {
     let mut random = Random(2);
-    for (n, kind) in pairs(&[4, 5, 6, 7, 8, 9], &[0, 1, 2, 3, 4, 5, 5, 5, 5, 5]) {
+    for (n, kind) in pairs(&[4, 5, 6, 7, 8, 9], &[0, 1, 2, 3, 4, 5, 5, 5, 5, 5, NO_POINT]) {
         let mask = random.set(n, kind);
         (0..=n).for_each(|d| _ = check_again(&mut random, &mask, n, d));
     }
@@ -87,30 +87,32 @@ fn of_all_points_those_of_weight_up_to_the_degree_are_kept() {
     }
 }
 
-// The degree that Judge reports, and the mask of the kept points, which held this byte everywhere.
-fn judged(filter: Filter, byte: u8) -> (usize, Vec<u8>) {
-    let ([mut one, mut zero], mut kept) = ([[0; 512]; 2], vec![byte; 512]);
-    let found = library::judge(filter, &mut [0; 8192], &mut one, &mut zero, &mut kept).expect("accepted");
-    (found.degree, kept)
+// The degree that Judge reports, the witnesses of side 1 and side 0, and the mask of the kept points; every byte of each
+// was this one.
+fn judged(filter: Filter, byte: u8) -> (Option<usize>, [Vec<u8>; 3]) {
+    let mut masks = [(); 3].map(|_| vec![byte; 512]);
+    let [one, zero, kept] = &mut masks;
+    let found = library::judge(filter, &mut [0; 8192], one, zero, kept).expect("accepted");
+    (found.degree, masks)
 }
 
-// Judge marks what Rank marks of the set at the reported degree.
+// Judge marks what Rank marks of the set at the reported degree, and no point where there is none.
 fn check_judge(filter: Filter) {
-    let (k, kept) = judged(filter, 0x5a);
-    assert_eq!(kept, ranked(filter.set, filter.n, k).1, "Judge of {filter:?}");
+    let (degree, [_, _, kept]) = judged(filter, 0x5a);
+    let wanted = degree.map_or(vec![0; 512], |k| ranked(filter.set, filter.n, k).1);
+    assert_eq!(kept, wanted, "Judge of {filter:?}");
 }
 
-// Does the same with every set that has a point and every table of n taps.
+// Does the same with every set and every table of n taps.
 fn for_each_of_few_taps(n: usize, check: impl Fn(Filter)) {
     let masks = masks(n);
-    masks[1..].iter().for_each(|set| masks.iter().for_each(|table| check(Filter { n, set, table })));
+    masks.iter().for_each(|set| masks.iter().for_each(|table| check(Filter { n, set, table })));
 }
 
 // Does the same with filters of each n and every kind of set and table, so many of each.
 fn for_each_drawn(seed: u64, taps: &[usize], count: usize, check: impl Fn(Filter)) {
     let mut random = Random(seed);
-    let kinds = pairs(&[0, 1, 2, 3, 4, 5], &[0, 1, 2, 3, 4]);
-    for (n, (for_set, for_table)) in pairs(taps, &kinds.repeat(count)) {
+    for (n, (for_set, for_table)) in pairs(taps, &kinds().repeat(count)) {
         let (set, table) = (random.set(n, for_set), random.table(n, for_table));
         check(Filter { n, set: &set, table: &table });
     }
@@ -135,6 +137,8 @@ fn the_masks_are_filled_whatever_they_held() {
         library::rank(&set, n, d, &mut [0; 8192], &mut kept).expect("accepted");
         assert_eq!(kept, ranked(&set, n, d).1, "Rank of {set:?}, n = {n}, d = {d}, over {byte}");
         assert_eq!(judged(filter, byte), judged(filter, 0), "Judge of {filter:?}, over {byte}");
+        let no_point = Filter { n, set: &random.set(n, NO_POINT), table: &table };
+        assert_eq!(judged(no_point, byte), (None, [(); 3].map(|_| vec![0; 512])), "Judge of {no_point:?}, over {byte}");
     }
 }
 
@@ -142,11 +146,11 @@ fn the_masks_are_filled_whatever_they_held() {
 fn the_kept_points_of_the_printed_filter_are_three_and_have_other_ranks_of_parts() {
     let (mut random, set, table) = (Random(7), mask_of(2, |_| true), mask_of(2, |a| a == 3));
     let (found, kept) = judge(&mut random, Filter { n: 2, set: &set, table: &table }, JUDGE_LENGTHS).expect("accepted");
-    assert_eq!((found.degree, points_of(&kept)), (1, vec![0, 1, 2]));
+    assert_eq!((found.degree, points_of(&kept)), (Some(1), vec![0, 1, 2]));
     let (alone, first) =
         judge(&mut random, Filter { n: 2, set: &kept, table: &table }, JUDGE_LENGTHS).expect("accepted");
     assert_eq!((found.ranks[1], alone.ranks[1]), ([3, 1, 3], [3, 0, 3]));
-    assert_eq!((alone.degree, points_of(&first)), (0, vec![0]));
+    assert_eq!((alone.degree, points_of(&first)), (Some(0), vec![0]));
 }
 
 // What Certify answers, and what stands in the certificate, which held other numbers.
@@ -184,7 +188,7 @@ fn certify_names_kept_points_on_every_set_with_every_table_of_one_and_two_taps()
 #[test]
 fn certify_names_kept_points_on_every_set_of_three_taps_with_every_kind_of_table() {
     let mut random = Random(8);
-    for (set, kind) in masks(3)[1..].iter().flat_map(|set| [0, 1, 2, 3, 4].map(|kind| (set, kind))) {
+    for (set, kind) in masks(3).iter().flat_map(|set| TABLES.map(|kind| (set, kind))) {
         check_certify(Filter { n: 3, set, table: &random.table(3, kind) });
     }
 }
@@ -197,9 +201,9 @@ fn certify_names_kept_points_on_every_kind_of_filter_of_four_to_nine_taps() {
 #[test]
 fn rank_writes_nothing_outside_its_buffers() {
     let mut random = Random(10);
-    for (n, d) in (1..=9).flat_map(|n| (0..=n).map(move |d| (n, d))) {
+    for (n, d, kind) in (1..=9).flat_map(|n| (0..=n).flat_map(move |d| [0, NO_POINT].map(|kind| (n, d, kind)))) {
         let (words, bytes) = (random.words(MARGIN + 8192 + MARGIN), random.bytes(MARGIN + 512 + MARGIN));
-        let (mask, mut workspace, mut kept) = (random.set(n, 0), words.clone(), bytes.clone());
+        let (mask, mut workspace, mut kept) = (random.set(n, kind), words.clone(), bytes.clone());
         let answer = library::rank(&mask, n, d, middle(&mut workspace), middle(&mut kept));
         assert!(answer.is_ok() && margins_stay(&words, &workspace) && margins_stay(&bytes, &kept), "n = {n}, d = {d}");
     }

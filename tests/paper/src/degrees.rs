@@ -14,7 +14,7 @@ pub fn degree(slice: &Slice, table: &[u8]) -> (usize, Duration) {
     let (mut workspace, [mut one, mut zero, mut kept]) = ([0; 8192], [[0; 512]; 3]);
     let start = Instant::now();
     let judged = library::judge(slice.filter(table), &mut workspace, &mut one, &mut zero, &mut kept);
-    (judged.expect("accepted").degree, start.elapsed())
+    (judged.expect("accepted").degree.expect("a slice has a point"), start.elapsed())
 }
 
 impl Degrees {

@@ -59,7 +59,7 @@ impl Slice {
     pub fn mark(&self) -> usize {
         let [mut one, mut zero, mut kept] = [[0; 512]; 3];
         let judged = library::judge(self.filter(&[0; 512]), &mut [0; 8192], &mut one, &mut zero, &mut kept);
-        judged.expect("accepted").mark
+        judged.expect("accepted").mark.expect("a slice has a point")
     }
 }
 

@@ -13,8 +13,8 @@ use paper::slice::Slice;
 fn degree(slice: &Slice, table: &[u8]) -> usize {
     let judged = judge(&mut Random(2), slice.filter(table), JUDGE_LENGTHS);
     let (Judgement { degree, mark, .. }, _) = judged.expect("accepted");
-    assert_eq!(mark, slice.mark(), "n = {}, weight {}: another mark with another table", slice.n, slice.k);
-    degree
+    assert_eq!(mark, Some(slice.mark()), "n = {}, weight {}: another mark with another table", slice.n, slice.k);
+    degree.expect("a slice has a point")
 }
 
 // The degree that every balanced function has on each slice of four taps.

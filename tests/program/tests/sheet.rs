@@ -2,7 +2,7 @@
 use independent::filter_file::Triple;
 use independent::random::Random;
 use independent::rank::points_of;
-use independent::samples::{LISTED_FILES, PRINTED_FILE, Tally, of_weights, pairs};
+use independent::samples::{LISTED_FILES, NO_POINT, PRINTED_FILE, TABLES, Tally, kinds, of_weights, pairs};
 use independent::sheet::sheet;
 use program::{limited, offer, printed, run_fed, sheet_of, sheet_program};
 use std::fs::File;
@@ -17,24 +17,29 @@ fn refusal(text: &str) -> u8 {
     text.strip_prefix("refused ").map_or(0, |number| number.trim_end().parse().expect("a number"))
 }
 
-// The number behind the word on the sheet, where the word stands first.
-fn number_behind(word: &str, text: &str) -> usize {
-    let behind = text.split_whitespace().skip_while(|found| *found != word).nth(1);
-    behind.expect("a number").parse().expect("a number")
+// The number behind the word on the sheet, where the word stands first, or none.
+fn number_behind(word: &str, text: &str) -> Option<usize> {
+    let behind = text.split_whitespace().skip_while(|found| *found != word).nth(1).expect("a number or none");
+    (behind != "none").then(|| behind.parse().expect("a number"))
 }
 
-// Both sheets of each input are the same, and the degree of a filter is not over the mark. The numbers that were
-// answered so often, 0 for a filter judged.
+// The sheet of a filter has a degree and a mark exactly if the set has a point, and the degree is not over the mark.
+fn check_degree(text: &str) {
+    let [points, degree, mark] = ["points", "degree", "mark"].map(|word| number_behind(word, text));
+    assert_eq!([degree.is_some(), mark.is_some()], [points != Some(0); 2], "none or a number:\n{text}");
+    assert!(degree <= mark, "over the mark:\n{text}");
+}
+
+// Both sheets of each input are the same. The numbers that were answered so often, 0 for a filter judged.
 fn compare(inputs: &[Vec<u8>], least: usize) -> Vec<usize> {
     let mut tally = Tally::default();
     for input in inputs {
         let text = sheet_of(input);
         assert!(text == sheet(input), "the sheet of {input:02x?} is\n{text}");
         let number = refusal(&text);
-        assert!(
-            number != 0 || number_behind("degree", &text) <= number_behind("mark", &text),
-            "over the mark:\n{text}"
-        );
+        if number == 0 {
+            check_degree(&text);
+        }
         tally.count(if number == 0 { Ok(()) } else { Err(number) });
     }
     tally.numbers(least)
@@ -47,8 +52,7 @@ fn file(n: usize, set: &[u8], table: &[u8]) -> Vec<u8> {
 
 // So many files of each kind of set and each kind of table of n taps.
 fn files(random: &mut Random, n: usize, count: usize) -> Vec<Vec<u8>> {
-    let kinds = pairs(&[0, 1, 2, 3, 4, 5], &[0, 1, 2, 3, 4]);
-    let drawn = kinds.repeat(count).into_iter().map(|(for_set, for_table)| {
+    let drawn = kinds().repeat(count).into_iter().map(|(for_set, for_table)| {
         let (set, table) = (random.set(n, for_set), random.table(n, for_table));
         file(n, &set, &table)
     });
@@ -66,7 +70,7 @@ fn the_listed_files() {
 fn every_kind_of_filter_of_up_to_six_taps() {
     let mut random = Random(1);
     for n in 1..=6 {
-        assert_eq!(compare(&files(&mut random, n, 5), 150), [0]);
+        assert_eq!(compare(&files(&mut random, n, 5), 5 * kinds().len()), [0]);
     }
 }
 
@@ -74,7 +78,18 @@ fn every_kind_of_filter_of_up_to_six_taps() {
 fn every_kind_of_filter_of_seven_to_nine_taps() {
     let mut random = Random(2);
     for (n, count) in [(7, 3), (8, 1), (9, 1)] {
-        assert_eq!(compare(&files(&mut random, n, count), 30), [0]);
+        assert_eq!(compare(&files(&mut random, n, count), count * kinds().len()), [0]);
+    }
+}
+
+#[test]
+fn on_no_point_of_every_n_the_lines_are_of_zeros_and_none_with_every_kind_of_table() {
+    let mut random = Random(8);
+    for (n, kind) in pairs(&TAPS, &TABLES) {
+        let input = file(n, &random.set(n, NO_POINT), &random.table(n, kind));
+        let (text, ranks) = (sheet_of(&input), (0..=n).map(|d| format!("{d} 0 0 0\n")).collect::<String>());
+        let lines = format!("n {n} points 0 mark none\n{ranks}degree none\nsides none none\nadditions 0\n");
+        assert_eq!([&text, &sheet(&input)], [&lines; 2], "{input:02x?}");
     }
 }
 
@@ -88,7 +103,7 @@ fn compare_unions(random: &mut Random, n: usize, unions: impl Iterator<Item = us
 #[test]
 fn every_union_of_weights_of_up_to_six_taps() {
     let mut random = Random(6);
-    (1..=6).for_each(|n| compare_unions(&mut random, n, 1..1 << (n + 1)));
+    (1..=6).for_each(|n| compare_unions(&mut random, n, 0..1 << (n + 1)));
 }
 
 #[test]
@@ -121,7 +136,7 @@ fn damaged_files() {
             damage(&mut random, file)
         })
         .collect();
-    assert_eq!(compare(&inputs, 5), [0, 2, 3, 4, 5, 6, 7]);
+    assert_eq!(compare(&inputs, 5), [0, 2, 3, 4, 5, 7]);
 }
 
 #[test]
@@ -133,7 +148,7 @@ fn random_bytes() {
             (0..length).map(|_| random.below(most) as u8).collect()
         })
         .collect();
-    assert_eq!(compare(&inputs, 5), [2, 3, 4, 5, 6, 7]);
+    assert_eq!(compare(&inputs, 5), [0, 2, 3, 4, 5, 7]);
 }
 
 #[test]
