@@ -56,18 +56,24 @@ enum {
     EKTHAVRUL_RANK_ONE_AT = 1,     /* that of part 1 */
     EKTHAVRUL_RANK_ZERO_AT = 2,    /* that of part 0 */
     EKTHAVRUL_RANKS_OF_DEGREE = 3, /* how many ranks each degree has */
-    EKTHAVRUL_DEGREE_AT = 30,      /* the reported degree */
-    EKTHAVRUL_SIDE_AT = 31,        /* the side */
+    EKTHAVRUL_DEGREE_AT = 30,      /* the reported degree, or EKTHAVRUL_NO_DEGREE */
+    EKTHAVRUL_SIDE_AT = 31,        /* the side, or EKTHAVRUL_NO_SIDE */
     EKTHAVRUL_ADDITIONS_AT = 32,   /* the count of additions of rows */
     EKTHAVRUL_DEGREE_ONE_AT = 33,  /* side 1's own degree, or EKTHAVRUL_NO_DEGREE */
     EKTHAVRUL_DEGREE_ZERO_AT = 34, /* that of side 0 */
-    EKTHAVRUL_MARK_AT = 35         /* the mark: no table has a higher reported degree on S */
+    EKTHAVRUL_MARK_AT = 35         /* the mark: no table has a higher reported degree on S; or EKTHAVRUL_NO_DEGREE */
 };
 
-/* The number in the report for a side that has no degree of its own; it is over every n. */
-enum { EKTHAVRUL_NO_DEGREE = 10 };
+/*
+ * The numbers in the report for what there is not. The reported degree, the side and the mark are none exactly where S has
+ * no point. A side's own degree is none exactly where the side's part is all of S; where S has no point, both parts are.
+ */
+enum {
+    EKTHAVRUL_NO_DEGREE = 10, /* no reported degree, no own degree of a side, or no mark; it is over every n */
+    EKTHAVRUL_NO_SIDE = 2     /* no side; it is over both sides */
+};
 
-/* What an operation answers. */
+/* What an operation answers; none answers 6. */
 enum {
     EKTHAVRUL_ACCEPTED = 0,
     EKTHAVRUL_LENGTH = 1,          /* a buffer has the wrong length */
@@ -75,7 +81,6 @@ enum {
     EKTHAVRUL_NUMBER_FORM = 3,     /* a number is not in its shortest form, or has more than two groups */
     EKTHAVRUL_TAPS = 4,            /* n is not from 1 to 9 */
     EKTHAVRUL_RANGE = 5,           /* a count over 2^n, a difference of 0, or a point of 2^n or more */
-    EKTHAVRUL_EMPTY_SET = 6,       /* the set has no point */
     EKTHAVRUL_SURPLUS = 7,         /* bytes remain after the file's last number */
     EKTHAVRUL_BYTES = 8,           /* a byte of a mask is not 0 or 1, or not 0 past the last point */
     EKTHAVRUL_ZERO_POLYNOMIAL = 9, /* the zero polynomial has no degree */
@@ -86,10 +91,10 @@ enum {
 };
 
 /*
- * Read: what a filter file says. `*n` becomes the number of taps, `set` the mask of the set S, and `table` that of the
- * points where f is 1.
- * Refusals: LENGTH (set, table), then number by number FILE_ENDS, NUMBER_FORM and its own rule, TAPS, RANGE or
- * EMPTY_SET; last SURPLUS.
+ * Read: what a filter file says. `*n` becomes the number of taps, `set` the mask of the set S, which may have no point,
+ * and `table` that of the points where f is 1.
+ * Refusals: LENGTH (set, table), then number by number FILE_ENDS, NUMBER_FORM and its own rule, TAPS or RANGE; last
+ * SURPLUS.
  */
 uint8_t ekthavrul_read(const uint8_t *file, size_t file_length, uint8_t *set, size_t set_length, uint8_t *table,
                        size_t table_length, size_t *n);
@@ -99,7 +104,7 @@ uint8_t ekthavrul_read(const uint8_t *file, size_t file_length, uint8_t *set, si
  * the file, the rest stays as it was, and `*length` becomes the length of the file. Every output is accepted that is not
  * shorter than the file; 2,053 bytes, EKTHAVRUL_FILE_MAX, are enough for every file. Where Write refuses, `*length` is as
  * it was, like all that is lent.
- * Refusals: LENGTH (set, table), TAPS, BYTES (set, then table), EMPTY_SET, SHORT_OUTPUT.
+ * Refusals: LENGTH (set, table), TAPS, BYTES (set, then table), SHORT_OUTPUT.
  */
 uint8_t ekthavrul_write(const uint8_t *set, size_t set_length, const uint8_t *table, size_t table_length, size_t n,
                         uint8_t *output, size_t output_length, size_t *length);
@@ -131,12 +136,15 @@ uint8_t ekthavrul_rank(const uint8_t *mask, size_t mask_length, size_t n, size_t
  * 1 if part 1 differs there, else 0; as the additions the count over all eliminations; as each side's own degree the
  * first d up to n at which the rank of that side's part is not that of S, or EKTHAVRUL_NO_DEGREE if there is none, which
  * is so exactly where the part is all of S; as the mark the first d at which twice the rank of S exceeds the number of
- * points of S: there always is one, and it is at most n. The degree is the smaller of the sides' own that exist, and it
- * is never over the mark. `one` and `zero` become the coefficients of the witness of their side, a polynomial of the
- * reported degree that is zero on the part and not on all of S, or zeros if the side does not differ at that degree.
- * `kept` becomes the mask of the points of S that are kept at the reported degree, whatever it held. A refusal leaves the
- * report and `kept` as they were, like all that is lent.
- * Refusals: LENGTH (set, table, workspace, one, zero, kept), TAPS, BYTES (set, then table), EMPTY_SET.
+ * points of S. Where S has a point, there is a degree, a side and a mark, and the mark is at most n. The degree is the
+ * smaller of the sides' own that exist, and it is never over the mark. `one` and `zero` become the coefficients of the
+ * witness of their side, a polynomial of the reported degree that is zero on the part and not on all of S, or zeros if the
+ * side does not differ at that degree. `kept` becomes the mask of the points of S that are kept at the reported degree,
+ * whatever it held.
+ * Where S has no point, the ranks and the additions are 0, the degree, both own degrees and the mark EKTHAVRUL_NO_DEGREE,
+ * and the side EKTHAVRUL_NO_SIDE; `one`, `zero` and `kept` become zeros, whatever they held.
+ * A refusal leaves the report and `kept` as they were, like all that is lent.
+ * Refusals: LENGTH (set, table, workspace, one, zero, kept), TAPS, BYTES (set, then table).
  */
 uint8_t ekthavrul_judge(const uint8_t *set, size_t set_length, const uint8_t *table, size_t table_length, size_t n,
                         uint64_t *workspace, size_t workspace_length, uint8_t *one, size_t one_length, uint8_t *zero,
@@ -145,9 +153,9 @@ uint8_t ekthavrul_judge(const uint8_t *set, size_t set_length, const uint8_t *ta
 /*
  * Certify: why no polynomial up to degree d is zero on the side's part and not on all of S: for each point a of S
  * outside the part, bit q % 64 of certificate[8 * a + q / 64] becomes 1 exactly for the points q of the part that are
- * kept at d and whose rows at d sum to the row of a. All other bits become 0.
- * Refusals: LENGTH (set, table, workspace, certificate), TAPS, BYTES (set, then table), EMPTY_SET, DEGREE, SIDE,
- * RANKS_DIFFER.
+ * kept at d and whose rows at d sum to the row of a. All other bits become 0. Where S has no point, that is all bits, and
+ * the ranks are equal at every d.
+ * Refusals: LENGTH (set, table, workspace, certificate), TAPS, BYTES (set, then table), DEGREE, SIDE, RANKS_DIFFER.
  */
 uint8_t ekthavrul_certify(const uint8_t *set, size_t set_length, const uint8_t *table, size_t table_length, size_t n,
                           uint8_t side, size_t d, uint64_t *workspace, size_t workspace_length, uint64_t *certificate,
@@ -160,8 +168,9 @@ uint8_t ekthavrul_certify(const uint8_t *set, size_t set_length, const uint8_t *
  * bit of the EKTHAVRUL_CERTIFICATE numbers is 0; else it becomes 0. What Certify writes gets a yes, and so do other
  * sums that are right. A yes implies that the ranks of S and of the part are equal at d, whoever made the certificate:
  * no polynomial up to degree d is zero on the part and not on all of S. Where they differ, every certificate gets a no.
+ * Where S has no point, zeros alone get a yes.
  * Any numbers may be lent, and nothing but `*yes` is written; where Check refuses, it is as it was.
- * Refusals: LENGTH (set, table, certificate), TAPS, BYTES (set, then table), EMPTY_SET, DEGREE, SIDE.
+ * Refusals: LENGTH (set, table, certificate), TAPS, BYTES (set, then table), DEGREE, SIDE.
  */
 uint8_t ekthavrul_check(const uint8_t *set, size_t set_length, const uint8_t *table, size_t table_length, size_t n,
                         uint8_t side, size_t d, const uint64_t *certificate, size_t certificate_length, uint8_t *yes);

@@ -11,7 +11,7 @@ static int refused(uint8_t status) {
     return 0;
 }
 
-/* Prints a side's own degree after a space, or `none`. */
+/* Prints a degree or a mark after a space, or `none`. */
 static void print_degree(uint32_t degree) {
     if (degree == EKTHAVRUL_NO_DEGREE)
         printf(" none");
@@ -19,7 +19,26 @@ static void print_degree(uint32_t degree) {
         printf(" %" PRIu32, degree);
 }
 
+/* Prints the side with its word after a space, where there is one. */
+static void print_side(uint32_t side) {
+    if (side != EKTHAVRUL_NO_SIDE)
+        printf(" side %" PRIu32, side);
+}
+
 /* Prints the mark; below it the degree and the side of the filter; and below these side 1's own degree and side 0's. */
+static void print_report(const uint32_t *report) {
+    printf("mark");
+    print_degree(report[EKTHAVRUL_MARK_AT]);
+    printf("\ndegree");
+    print_degree(report[EKTHAVRUL_DEGREE_AT]);
+    print_side(report[EKTHAVRUL_SIDE_AT]);
+    printf("\nsides");
+    print_degree(report[EKTHAVRUL_DEGREE_ONE_AT]);
+    print_degree(report[EKTHAVRUL_DEGREE_ZERO_AT]);
+    printf("\n");
+}
+
+/* Judges the filter, and prints what is reported, or the refusal. */
 static int judge(const uint8_t *set, const uint8_t *table, size_t n) {
     static uint64_t workspace[EKTHAVRUL_WORKSPACE];
     uint8_t one[EKTHAVRUL_POINTS], zero[EKTHAVRUL_POINTS], kept[EKTHAVRUL_POINTS];
@@ -28,11 +47,7 @@ static int judge(const uint8_t *set, const uint8_t *table, size_t n) {
                                      one, sizeof one, zero, sizeof zero, kept, sizeof kept, report);
     if (status != EKTHAVRUL_ACCEPTED)
         return refused(status);
-    printf("mark %" PRIu32 "\n", report[EKTHAVRUL_MARK_AT]);
-    printf("degree %" PRIu32 " side %" PRIu32 "\nsides", report[EKTHAVRUL_DEGREE_AT], report[EKTHAVRUL_SIDE_AT]);
-    print_degree(report[EKTHAVRUL_DEGREE_ONE_AT]);
-    print_degree(report[EKTHAVRUL_DEGREE_ZERO_AT]);
-    printf("\n");
+    print_report(report);
     return 0;
 }
 

@@ -27,6 +27,14 @@ static void choose(uint8_t *mask, const int *points) {
         mask[*points] = 1;
 }
 
+/* Whether every byte is 0. */
+static int zeros(const void *memory, size_t length) {
+    const uint8_t *bytes = memory;
+    while (length > 0 && bytes[length - 1] == 0)
+        length--;
+    return length == 0;
+}
+
 /* Every byte of the mask of the kept points becomes one that no mask has. */
 static void spoil_kept(void) {
     memset(kept, 77, sizeof kept);
@@ -217,6 +225,62 @@ static void check_mark(void) {
     expect(kept_are((int[]){3, 5, 6, 9, -1}), "the kept points of case 11 at its degree");
 }
 
+/* The file of one tap, no point and f zero, read into masks that held other bytes, and written again. */
+static void check_empty_file(void) {
+    const uint8_t file[] = {0x01, 0x00, 0x00};
+    uint8_t output[sizeof file];
+    size_t n = 77, length = 77;
+    memset(set, 77, sizeof set);
+    memset(table, 77, sizeof table);
+    expect(ekthavrul_read(file, 2, set, POINTS, table, POINTS, &n) == EKTHAVRUL_FILE_ENDS && n == 77, "Read of 01 00");
+    expect(ekthavrul_read(file, sizeof file, set, POINTS, table, POINTS, &n) == 0 && n == 1, "Read of 01 00 00");
+    expect(zeros(set, sizeof set) && zeros(table, sizeof table), "the set and the table of 01 00 00");
+    expect(write_file(1, output, sizeof output, &length) == 0 && length == sizeof file, "Write of no point");
+    expect(memcmp(output, file, sizeof file) == 0, "the file of no point");
+}
+
+/* Judge of no point of n taps, lent buffers that held other numbers: there is no degree, no side and no mark. */
+static void check_empty_report(size_t n) {
+    const uint32_t wanted[EKTHAVRUL_REPORT] = {[EKTHAVRUL_DEGREE_AT] = EKTHAVRUL_NO_DEGREE,
+                                               [EKTHAVRUL_SIDE_AT] = EKTHAVRUL_NO_SIDE,
+                                               [EKTHAVRUL_DEGREE_ONE_AT] = EKTHAVRUL_NO_DEGREE,
+                                               [EKTHAVRUL_DEGREE_ZERO_AT] = EKTHAVRUL_NO_DEGREE,
+                                               [EKTHAVRUL_MARK_AT] = EKTHAVRUL_NO_DEGREE};
+    uint32_t report[EKTHAVRUL_REPORT];
+    memset(report, 77, sizeof report);
+    memset(workspace, 77, sizeof workspace);
+    memset(one, 77, sizeof one);
+    memset(zero, 77, sizeof zero);
+    expect(judge(n, report) == 0 && memcmp(report, wanted, sizeof wanted) == 0, "Judge of no point");
+    expect(zeros(one, sizeof one) && zeros(zero, sizeof zero), "the witnesses on no point");
+    expect(zeros(kept, sizeof kept), "the kept points of no point");
+    expect(zeros(workspace, sizeof workspace), "the workspace after Judge of no point");
+}
+
+/* Certify of no point of two taps writes zeros at the degree, and Check says yes to these alone. */
+static void check_empty_certificate(size_t d) {
+    for (int side = 1; side >= 0; side--) {
+        memset(certificate, 77, sizeof certificate);
+        expect(certify((uint8_t)side, d) == 0 && zeros(certificate, sizeof certificate), "Certify of no point");
+    }
+    check_answer(d, 1, "Check says yes to zeros");
+    certificate[EKTHAVRUL_ROW_WORDS] = 1;
+    check_answer(d, 0, "Check says no to a sum where there is no point");
+}
+
+/* The set of no points: its file, its report with f zero and with f one, and its certificates. */
+static void check_empty_set(void) {
+    uint8_t yes = 77;
+    check_empty_file();
+    check_empty_report(1);
+    choose(table, (int[]){0, 1, 2, 3, -1});
+    check_empty_report(2);
+    for (size_t d = 0; d <= 2; d++)
+        check_empty_certificate(d);
+    expect(certify(0, 3) == EKTHAVRUL_DEGREE && certify(2, 2) == EKTHAVRUL_SIDE, "Certify of no point refuses");
+    expect(check(3, EKTHAVRUL_CERTIFICATE, &yes) == EKTHAVRUL_DEGREE && yes == 77, "Check of no point refuses");
+}
+
 /* Makes every check; the status is 0 if there was no fault. */
 int main(void) {
     check_read();
@@ -230,5 +294,6 @@ int main(void) {
     check_own_degrees((int[]){-1}, 0, EKTHAVRUL_NO_DEGREE, "Judge, case 8");
     check_own_degrees((int[]){0, -1}, EKTHAVRUL_NO_DEGREE, 0, "Judge, case 9");
     check_mark();
+    check_empty_set();
     return faults != 0;
 }
