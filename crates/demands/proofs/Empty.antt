@@ -11,7 +11,7 @@ use native.Mathlib.Decide.{decLt}
 use lib.ListN.{length, getD, replicate, getD-replicate, List·getD-eq-default, length-replicate}
 use lib.Seq.{ext-getD}
 use Rattle.refusal.specs.Outcome.{Outcome, refused, accepted, leftBy, left}
-use Rattle.refusal.proofs.Outcomes.{not-both, number-not-6, checked-not-6}
+use Rattle.refusal.proofs.Outcomes.{not-both, accepted-value, number-not-6, checked-not-6}
 use Rattle.cube.specs.NumberLists.{upFrom, below, consIf, select, lists, isEmpty}
 use Rattle.cube.specs.Cube.{Taps, size}
 use Rattle.cube.specs.Mask.{WellFormed, points, HasPoint, mask}
@@ -134,13 +134,9 @@ certified-leaves n f side d ws ws′ c c′ r h l m long-ws long-c x =
     go (certified.Refused z) e = absurd (not-both e)
     go certified.Accepted e = refl
 
--- values that are accepted are the same
-accepted-same : {x y : Bool} → _≡_ {A = Outcome Bool} (accepted x) (accepted y) → x ≡ y
-accepted-same {x} e = ap (λ (o : Outcome Bool). leftBy o x (λ z. z)) e
-
 -- yes is not no
 yes-not-no : answer.Yes ≡ answer.No → ⊥
-yes-not-no e = false≢true (sym (accepted-same (ap outcomeOf e)))
+yes-not-no e = false≢true (sym (accepted-value (ap outcomeOf e)))
 
 module _ (n : ℕ) (f : List ℕ) (side d : ℕ) (c : List ℕ) (h : TableOf n f) (l : side ≤ 1) (m : d ≤ n) (long : length c ≡ 4096) (small : (i : ℕ) → getD c i 0 < 2 ^ 64) where
   -- Check says yes to zeros,
@@ -156,7 +152,7 @@ module _ (n : ℕ) (f : List ℕ) (side d : ℕ) (c : List ℕ) (h : TableOf n f
   check-none : (b : Bool) × CheckAccepts graded n noPoints f side d c b × ((b ≡ true) ↔ (c ≡ zeros 4096))
   check-none =
       let says = check-says graded noPoints f n side d c (check-passes noPoints f n side d (length c) (filter-none h) l m long) in
-      (_, says, (λ yes. only-yes (says ∙ ap accepted yes), λ e. accepted-same (sym says ∙ yes-zeros e)))
+      (_, says, (λ yes. only-yes (says ∙ ap accepted yes), λ e. accepted-value (sym says ∙ yes-zeros e)))
 
 -- and what the code says
 check-answers : (n : ℕ) (f : List ℕ) (side d : ℕ) (c : List ℕ) (r : CheckAnswer) → TableOf n f → side ≤ 1 → d ≤ n → length c ≡ 4096 → ((i : ℕ) → getD c i 0 < 2 ^ 64)
@@ -168,10 +164,10 @@ check-answers n f side d c r h l m long small k =
     go : (x : CheckAnswer) (b : Bool) → outcomeOf x ≡ accepted b → ((b ≡ true) ↔ (c ≡ zeros 4096)) → ((x ≡ answer.Yes) ↔ (c ≡ zeros 4096)) × ((x ≡ answer.No) ↔ (c ≢ zeros 4096))
     go (answer.Refused y) b e exact = absurd (not-both e)
     go answer.Yes b e exact =
-        let yes : b ≡ true = sym (accepted-same e) in
+        let yes : b ≡ true = sym (accepted-value e) in
         ((λ _. exact .0 yes, λ _. refl), (λ q. absurd (yes-not-no q), λ other. absurd (other (exact .0 yes))))
     go answer.No b e exact =
-        let no-yes : b ≡ false = sym (accepted-same e) in
+        let no-yes : b ≡ false = sym (accepted-value e) in
         ((λ q. absurd (yes-not-no (sym q)), λ z. absurd (false≢true (sym no-yes ∙ exact .1 z))), (λ _ z. false≢true (sym no-yes ∙ exact .1 z), λ _. refl))
 
 module _ (n : ℕ) (s f ws ws′ : List ℕ) (w w′ : Sides (List ℕ)) (m m′ : List ℕ) (a : JudgeAnswer)

@@ -14,7 +14,7 @@ use Rattle.refusal.specs.declared.Refusal.the-variants.{Length}
 use Rattle.refusal.specs.Outcome.{Outcome, refused, accepted, _otherwise_, after, leftBy}
 use Rattle.refusal.specs.declared.verdict.Verdict.the-variants as verdicts
 use Rattle.refusal.specs.Verdict.{verdict}
-use Rattle.refusal.proofs.Outcomes.{not-both}
+use Rattle.refusal.proofs.Outcomes.{not-both, accepted-value}
 use Rattle.refusal.proofs.Verdicts.{checked-append, accepted-passes}
 use Rattle.cube.specs.NumberLists.{Inside}
 use Rattle.cube.specs.Cube.{taps, size}
@@ -142,7 +142,7 @@ module _ (b : List ℕ) (n d : ℕ) (ws ws′ m m′ : List ℕ) (r : Ranked) (h
       go : (y : RankAnswer) → rankOutcomeOf y l′ ≡ accepted (ranking graded n d (points m′)) → (x : Ranked) × (y ≡ rank.Accepted x) × (x .rank ≡ r .rank) × (l′ ≡ m′)
       go (rank.Refused z) e = absurd (not-both e)
       go (rank.Accepted x) e =
-          let is : rankingOf x l′ ≡ ranking graded n d (points m′) = ap (λ (o : Outcome Ranking). leftBy o (rankingOf x l′) (λ z. z)) e in
+          let is : rankingOf x l′ ≡ ranking graded n d (points m′) = accepted-value e in
           (x, refl, ap (λ (z : Ranking). z .rank) is ∙ same .0 ∙ rank-answered, ap (λ (z : Ranking). z .kept) is ∙ same .1)
 
 -- a length before one that is wrong

@@ -7,7 +7,7 @@
 --   found-judged        what is found and accepted is a report that states the judgement, or no point
 --   Fits j              the judgement j fits a report: ranks at ten degrees, degrees up to 9 and a side up to 1
 --   accepted-fits       so does each that is accepted
-use mathlib.Core.Path.{_≡_, refl, ap, _∙_}
+use mathlib.Core.Path.{_≡_, refl, _∙_}
 use mathlib.Core.Logic.{_⊎_, inl, inr}
 use mathlib.Core.List.{List}
 use mathlib.Core.Option.{some}
@@ -15,10 +15,10 @@ use Prim.Native.Nat.{ℕ, _≤_, _<_}
 use native.Mathlib.Omega.{arith}
 use lib.ListN.{length, length-map}
 use borrow.Author.Tests.{eqb-true, eq-eqb}
-use Rattle.refusal.specs.Outcome.{Outcome, accepted, leftBy}
+use Rattle.refusal.specs.Outcome.{accepted}
 use Rattle.refusal.specs.Verdict.{verdict}
 use Rattle.refusal.specs.declared.verdict.Verdict.the-variants.{Passed}
-use Rattle.refusal.proofs.Outcomes.{not-both}
+use Rattle.refusal.proofs.Outcomes.{not-both, accepted-value}
 use Rattle.refusal.proofs.Verdicts.{passed-all, all-passed, verdict-passes, accepted-passes}
 use Rattle.cube.specs.NumberLists.{below}
 use Rattle.cube.proofs.Masks.{length-from}
@@ -80,8 +80,8 @@ module _ (o : List ℕ) (n : ℕ) (s f : List ℕ) where
 pub found-judged : (x : Finding) (ranks : List Ranks) (w : Sides (List ℕ)) (m : List ℕ) (j : Judgement) → found x ranks w m ≡ accepted j
     → ((r : Report) × (x ≡ Judged r) × (judgementOf r ranks w m ≡ j)) ⊎ ((x ≡ NoPoint) × (noPointJudgement ranks w m ≡ j))
 found-judged (Refused y) ranks w m j e = absurd (not-both e)
-found-judged NoPoint ranks w m j e = inr (refl, ap (λ (o : Outcome Judgement). leftBy o j (λ i. i)) e)
-found-judged (Judged r) ranks w m j e = inl (r, refl, ap (λ (o : Outcome Judgement). leftBy o j (λ i. i)) e)
+found-judged NoPoint ranks w m j e = inr (refl, accepted-value e)
+found-judged (Judged r) ranks w m j e = inl (r, refl, accepted-value e)
 
 -- what a judgement has fits a report: ranks at ten degrees, degrees up to 9 and a side up to 1
 pub record Fits (j : Judgement) : Type 0 where

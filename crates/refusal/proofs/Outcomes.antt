@@ -1,17 +1,18 @@
 -- What an acceptance and a refusal show.
 --   not-both          an outcome is not both refused and accepted
+--   accepted-value    what is accepted is one value
 --   number-not-6      6 is the number of no refusal
 --   checked-not-6     so checks never refuse by it
 --   check-passed      an outcome that accepts after checks has passed the first of them
 --   mapped-refused    an outcome that refuses with other values refuses
 --   mapped-accepted   one that accepts with other values accepts what they are made of
-use mathlib.Core.Path.{_≡_, refl, sym}
+use mathlib.Core.Path.{_≡_, refl, sym, ap}
 use mathlib.Core.Logic.{_≢_}
 use mathlib.Core.Bool.{Bool, true, false}
 use mathlib.Core.List.{List, [], _∷_}
 use Prim.Native.Nat.{ℕ}
 use native.Mathlib.Omega.{arith}
-use Rattle.refusal.specs.Outcome.{Outcome, refused, accepted, Check, _otherwise_, checked, mapped}
+use Rattle.refusal.specs.Outcome.{Outcome, refused, accepted, Check, _otherwise_, checked, mapped, leftBy}
 use Rattle.refusal.specs.Refusal.{numberOf}
 use Rattle.refusal.specs.declared.Refusal.{Refusal}
 use Rattle.refusal.specs.declared.Refusal.the-variants.{Length, FileEnds, NumberForm, Taps, Range, Surplus, Bytes, ZeroPolynomial, Degree, Side, RanksDiffer, ShortOutput}
@@ -19,6 +20,10 @@ use Rattle.refusal.specs.declared.Refusal.the-variants.{Length, FileEnds
 -- an outcome is not both refused and accepted
 pub not-both : {A : Type 0} {k : ℕ} {a : A} → refused k ≡ accepted a → ⊥
 not-both e = let z : _≡_ {A = ℕ} 0 1 = cc in omega arith
+
+-- what is accepted is one value
+pub accepted-value : {A : Type 0} {x y : A} → _≡_ {A = Outcome A} (accepted x) (accepted y) → x ≡ y
+accepted-value {A} {x} e = ap (λ (o : Outcome A). leftBy o x (λ z. z)) e
 
 -- 6 is the number of no refusal
 pub number-not-6 : (x : Refusal) → numberOf x ≢ 6

@@ -1,7 +1,6 @@
 -- What is accepted while a sheet is made.
 --   judge-found     what Judge answers of a filter that it accepts is its judgement
---   judge-none      also where it answers that there is no point,
---   points-none     which is so then
+--   judge-none      also where it answers that there is no point, which is so then
 --   no-point-lines  the lines of its sheet then
 --   judge-refuses   it is no refusal
 --   sums-accepted   Certify accepts each side at each degree below the reported one
@@ -12,7 +11,8 @@ use mathlib.Core.Option.{none, some}
 use Prim.Native.Nat.{ℕ, _≤_, _<_}
 use native.Mathlib.Omega.{arith}
 use lib.ListN.{length}
-use Rattle.refusal.specs.Outcome.{Outcome, accepted, leftBy}
+use Rattle.refusal.specs.Outcome.{accepted, leftBy}
+use Rattle.refusal.proofs.Outcomes.{accepted-value}
 use Rattle.refusal.specs.declared.Refusal.{Refusal}
 use Rattle.order.specs.BuiltIn.{graded}
 use Rattle.order.proofs.BuiltIn.{graded-is-graded}
@@ -35,10 +35,6 @@ use Rattle.certify.proofs.Compared.{certify-accepts}
 use Rattle.sheet_lines.specs.Lines.{firstLine, rankLines, degreeLine, sidesLine, additionsLine}
 use Rattle.sheet_text.specs.Sheet.{judgementSheet}
 
--- values that are accepted
-value-of : {A : Type 0} (x y : A) → _≡_ {A = Outcome A} (accepted x) (accepted y) → x ≡ y
-value-of x y e = ap (λ (o : Outcome _). leftBy o x (λ z. z)) e
-
 module _ (n : ℕ) (s f : List ℕ) (a : JudgeAccepts graded n s f (judged graded n s f)) where
   module _ {m p q i : ℕ} (l : m ≡ 8192) (l₁ : p ≡ 512) (l₀ : q ≡ 512) (l₂ : i ≡ 512) {ws ws′ : List ℕ} {w w′ : Sides (List ℕ)} {kept kept′ : List ℕ} {r : JudgeAnswer}
       (h : JudgeContract (judgeOutcome graded s f n m p q i) ws ws′ w w′ kept kept′ r)
@@ -50,16 +46,14 @@ module _ (n : ℕ) (s f : List ℕ) (a : JudgeAccepts graded n s f (judged grade
       -- the judgement
       pub judge-found : (x : Report) → r .finding ≡ Judged x
           → judgementOf x (r .ranks) w′ kept′ ≡ judged graded n s f
-      judge-found x e = value-of _ (judged graded n s f) (ap (λ y. found y (r .ranks) w′ kept′) (sym e) ∙ answered)
+      judge-found x e = accepted-value (ap (λ y. found y (r .ranks) w′ kept′) (sym e) ∙ answered)
 
-      -- and where the set has no point
-      pub judge-none : r .finding ≡ NoPoint → noPointJudgement (r .ranks) w′ kept′ ≡ judged graded n s f
-      judge-none e = value-of _ (judged graded n s f) (ap (λ y. found y (r .ranks) w′ kept′) (sym e) ∙ answered)
-
-      -- which is so
-      pub points-none : r .finding ≡ NoPoint → points s ≡ []
+      -- also where it answers that there is no point, which is so then
+      pub judge-none : r .finding ≡ NoPoint → (points s ≡ []) × (noPointJudgement (r .ranks) w′ kept′ ≡ judged graded n s f)
       unfolding judged
-      points-none e = none-empty graded-is-graded n s f (judge-accepted graded n s f (judged graded n s f) a .0) (sym (ap (λ (j : Judgement). j .degree) (judge-none e)))
+      judge-none e =
+          let is : noPointJudgement (r .ranks) w′ kept′ ≡ judged graded n s f = accepted-value (ap (λ y. found y (r .ranks) w′ kept′) (sym e) ∙ answered) in
+          (none-empty graded-is-graded n s f (judge-accepted graded n s f (judged graded n s f) a .0) (sym (ap (λ (j : Judgement). j .degree) is)), is)
 
       -- no refusal
       pub judge-refuses : (x : Refusal) → r .finding ≡ Refused x → ⊥

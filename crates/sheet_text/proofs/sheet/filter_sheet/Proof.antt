@@ -17,7 +17,7 @@ use Rattle.buffer.specs.Appends.{Appends}
 use Rattle.buffer.proofs.Appending.{appends-then, appends-same}
 use Rattle.sheet_lines.specs.Lines.{firstLine}
 use Rattle.sheet_text.specs.Sheet.{judgementSheet}
-use Rattle.sheet_text.proofs.SheetAccepts.{judge-found, judge-none, points-none, judge-refuses, sums-accepted, no-point-lines}
+use Rattle.sheet_text.proofs.SheetAccepts.{judge-found, judge-none, judge-refuses, sums-accepted, no-point-lines}
 use Rattle.sheet_text.proofs.sheet.filter_sheet.Statement.{statement}
 use Rattle.sheet_text.proofs.sheet.filter_sheet.Tie as tie
 
@@ -110,9 +110,7 @@ returns-2 c =
     let j = t .before .before .before .before .before .before .before in
     let s = j .before .before .before .before .before .before .before .before in
     let a = s .args in
-    let none = judge-none (a .n) (a .set .now) (a .table .now) (s .pre .1) (length-replicate {A = ℕ} 8192 0) (length-replicate {A = ℕ} 512 0) (length-replicate {A = ℕ} 512 0) (length-replicate {A = ℕ} 512 0)
-    (j .judge .ensures) (t .enum-told .given .1) in
-    let empty = points-none (a .n) (a .set .now) (a .table .now) (s .pre .1) (length-replicate {A = ℕ} 8192 0) (length-replicate {A = ℕ} 512 0) (length-replicate {A = ℕ} 512 0) (length-replicate {A = ℕ} 512 0)
+    let (empty, none) = judge-none (a .n) (a .set .now) (a .table .now) (s .pre .1) (length-replicate {A = ℕ} 8192 0) (length-replicate {A = ℕ} 512 0) (length-replicate {A = ℕ} 512 0) (length-replicate {A = ℕ} 512 0)
     (j .judge .ensures) (t .enum-told .given .1) in
     appends-same (no-point-lines (a .n) (a .set .now) (a .table .now) empty _ _ _ ∙ ap (judgementSheet (a .n) (a .set .now) (a .table .now)) none) (p .no-point-sheet .ensures)
 
