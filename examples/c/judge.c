@@ -1,14 +1,47 @@
-/* Reads a filter file, judges it, and prints the mark, the degree, the side and each side's own degree: judge FILE */
+/*
+ * Reads a filter file, judges it, and prints the mark, the degree, the side and each side's own degree: judge FILE, or -
+ * for standard input. It answers by the statuses of the script `sheet`: see `help`.
+ */
 #include <ekthavrul.h>
 #include <inttypes.h>
 #include <stdio.h>
+#include <string.h>
 
-enum { ROOM = 4096, FAILURE = 1, USAGE = 2 };
+enum { ROOM = 4096, USAGE = 2, REFUSED = 3, FAILED = 4 };
 
-/* Prints the refusal. */
+static const char help[] = "usage: judge FILE\n"
+                           "\n"
+                           "Prints the mark, the degree, the side and each side's own degree of the filter file FILE,\n"
+                           "or of standard input where FILE is -.\n"
+                           "\n"
+                           "status  0  they were printed\n"
+                           "        2  wrong usage\n"
+                           "        3  the file was refused: `refused` and the number were printed\n"
+                           "        4  the input could not be read, or the output could not be written\n";
+
+/* What a refusal of Read says. */
+static const char *words_of(uint8_t status) {
+    switch (status) {
+    case EKTHAVRUL_FILE_ENDS:
+        return "the file ends before or inside a number";
+    case EKTHAVRUL_NUMBER_FORM:
+        return "the second byte of a number has the top bit set, or is 0";
+    case EKTHAVRUL_TAPS:
+        return "n is not from 1 to 9";
+    case EKTHAVRUL_RANGE:
+        return "a count over N, a difference of 0, or a point of N or more";
+    case EKTHAVRUL_SURPLUS:
+        return "bytes remain after the last number";
+    default:
+        return "see ekthavrul.h";
+    }
+}
+
+/* Prints the refusal, and says what it means. */
 static int refused(uint8_t status) {
     printf("refused %d\n", status);
-    return 0;
+    fprintf(stderr, "judge: refused %d: %s\n", status, words_of(status));
+    return REFUSED;
 }
 
 /* Prints a degree or a mark after a space, or `none`. */
@@ -56,8 +89,8 @@ static int judge_file(FILE *file) {
     uint8_t bytes[ROOM], set[EKTHAVRUL_POINTS], table[EKTHAVRUL_POINTS];
     size_t n, length = fread(bytes, 1, sizeof bytes, file);
     if (ferror(file)) {
-        perror("judge");
-        return FAILURE;
+        perror("judge: the input could not be read");
+        return FAILED;
     }
     uint8_t status = ekthavrul_read(bytes, length, set, sizeof set, table, sizeof table, &n);
     if (status != EKTHAVRUL_ACCEPTED)
@@ -65,18 +98,35 @@ static int judge_file(FILE *file) {
     return judge(set, table, n);
 }
 
+/* Judges the file that the word names. */
+static int judge_named(const char *name) {
+    FILE *file = strcmp(name, "-") == 0 ? stdin : fopen(name, "rb");
+    if (file == NULL) {
+        perror(name);
+        return FAILED;
+    }
+    int status = judge_file(file);
+    fclose(file);
+    return status;
+}
+
+/* The status, unless something that was printed could not be written. */
+static int written(int status) {
+    if (fflush(stdout) == 0 && !ferror(stdout))
+        return status;
+    perror("judge: the output could not be written");
+    return FAILED;
+}
+
 /* Judges the file that the one word names. */
 int main(int count, char **words) {
-    if (count != 2) {
-        fputs("usage: judge FILE\n", stderr);
+    if (count == 2 && strcmp(words[1], "--help") == 0) {
+        fputs(help, stdout);
+        return written(0);
+    }
+    if (count != 2 || (words[1][0] == '-' && words[1][1] != '\0')) {
+        fputs(help, stderr);
         return USAGE;
     }
-    FILE *file = fopen(words[1], "rb");
-    if (file == NULL) {
-        perror(words[1]);
-        return FAILURE;
-    }
-    int result = judge_file(file);
-    fclose(file);
-    return result;
+    return written(judge_named(words[1]));
 }
