@@ -8,14 +8,22 @@ use independent::random::Random;
 use independent::rank::{columns, row, row_span};
 use independent::samples::{NO_POINT, TABLES, kinds, mask_of, masks, pairs};
 use independent::span::{Bits, Span};
+use std::collections::HashSet;
 use std::hint::black_box;
-use std::thread;
 
 // A bit of a certificate: the point whose row it stands in, and the point that it names.
 type Place = (usize, usize);
 
-// The number of bits of a certificate.
-const BITS: usize = 512 * 512;
+// The places of all 262,144 bits of a certificate.
+fn every_place() -> impl Iterator<Item = Place> {
+    (0..512 * 512).map(|i| (i / 512, i % 512))
+}
+
+// Every place in the rows of the points of n taps, and of each other row sixteen places, other ones in each turn: 32 turns
+// meet every place.
+fn places_in_turn(n: usize, turn: usize) -> impl Iterator<Item = Place> {
+    every_place().filter(move |(a, q)| *a < 1 << n || q / 16 == (a + turn) % 32)
+}
 
 // A certificate that Certify wrote.
 struct Sound<'a> {
@@ -60,10 +68,10 @@ impl<'a> Sound<'a> {
         assert!(!self.stays_right(&[place]), "a yes with one bit changed at {place:?}");
     }
 
-    // The same of every one of the 262,144 bits.
-    fn break_all(&mut self) {
+    // The same of each of the places.
+    fn break_at_each(&mut self, places: impl Iterator<Item = Place>) {
         let entry = self.certificate.clone();
-        (0..BITS).for_each(|i| self.break_at((i / 512, i % 512)));
+        places.for_each(|place| self.break_at(place));
         assert!(black_box(&self.certificate) == &entry, "the certificate after all");
     }
 
@@ -112,7 +120,7 @@ fn break_drawn(random: &mut Random, n: usize, kind: usize) -> bool {
     let Some(mut sound) = found.last() else {
         return false;
     };
-    sound.break_all();
+    sound.break_at_each(every_place());
     true
 }
 
@@ -150,17 +158,17 @@ fn two_bits_changed_lead_to_the_independent_answer_on_every_set_and_table_of_one
     assert_eq!((right.len(), of_all), (754, 96), "at degree 0, where all points of the part have the same row");
 }
 
-// Every bit of every certificate of every second filter of one and two taps changed.
-fn break_every_second(first: usize) {
-    for (n, set, table) in filters_of_few_taps().iter().skip(first).step_by(2) {
-        certificates(Filter { n: *n, set, table }).for_each(|mut sound| sound.break_all());
-    }
-}
-
 #[test]
-fn one_bit_changed_leads_to_a_no_wherever_it_stands_on_every_set_and_table_of_one_and_two_taps() {
-    // 198 million calls: each of two threads takes every second filter
-    thread::scope(|scope| [0, 1].map(|first| drop(scope.spawn(move || break_every_second(first)))));
+fn one_bit_changed_leads_to_a_no_in_every_row_on_every_set_and_table_of_one_and_two_taps() {
+    let (mut met, mut turn) = (HashSet::new(), 0);
+    for (n, set, table) in &filters_of_few_taps() {
+        for mut sound in certificates(Filter { n: *n, set, table }) {
+            sound.break_at_each(places_in_turn(*n, turn));
+            met.extend(places_in_turn(*n, turn).filter(|_| turn < 32));
+            turn += 1;
+        }
+    }
+    assert_eq!((turn, met.len()), (754, every_place().count()), "every bit was changed in some certificate");
 }
 
 // Certify of no point writes zeros, of each side at each degree; one bit changed leads to a no, and so do two.
@@ -187,7 +195,7 @@ fn on_no_point_of_every_n_one_bit_or_two_in_every_row_lead_to_a_no() {
 fn on_no_point_of_nine_taps_one_bit_leads_to_a_no_wherever_it_stands() {
     let (set, table) = (mask_of(9, |_| false), Random(9).table(9, 4));
     let found = certificates(Filter { n: 9, set: &set, table: &table });
-    found.filter(|sound| [0, 9].contains(&sound.d)).for_each(|mut sound| sound.break_all());
+    found.filter(|sound| [0, 9].contains(&sound.d)).for_each(|mut sound| sound.break_at_each(every_place()));
 }
 
 #[test]
