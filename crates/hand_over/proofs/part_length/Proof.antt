@@ -1,8 +1,9 @@
 use borrow.Author.Needs.{needs}
 use mathlib.Core.Path.{_≡_, sym, ap, _∙_}
-use mathlib.Core.Bool.{true, false}
+use mathlib.Core.Bool.{Bool, true, false, _&&_}
 use Prim.Native.Nat.{ℕ, _≤_}
 use native.Mathlib.Omega.{arith}
+use lib.Dec.{eqb, leb}
 use lib.Pow.{pow-mono}
 use borrow.Author.Tests.{eqb-true}
 use Rattle.cube.proofs.Listed.{and-both}
@@ -19,10 +20,15 @@ right-shows n side k l e =
     let (one, zero) = and-both _ _ lengths in
     (eqb-true k 512 one, eqb-true l 512 zero, taps-range n .0 tapped .1)
 
+-- the tests, with what says that the number of taps is right under another name
+taps-same : (side k l : ℕ) {t t′ r : Bool} → t ≡ t′ → (eqb k 512 && eqb l 512 && t && leb side 1) ≡ r → (eqb k 512 && eqb l 512 && t′ && leb side 1) ≡ r
+taps-same side k l e h = sym (ap (λ x. eqb k 512 && eqb l 512 && x && leb side 1) e) ∙ h
+
 returns : tie.Need-returns
 returns c =
-    let a = c .before .before .before .args in
-    let e : right (a .n) (a .side) (a .one) (a .zero) ≡ true = cc in
+    let then = c .before in
+    let a = then .before .before .args in
+    let e : right (a .n) (a .side) (a .one) (a .zero) ≡ true = taps-same (a .side) (a .one) (a .zero) (then .before .valid-taps .ensures) (then .if1 .taken) in
     let (one, zero, few) = right-shows (a .n) (a .side) (a .one) (a .zero) e in
     let all = c .size .ensures .0 (omega arith) in
     (all ∙ sym (ap (λ b. lengthIf b (a .n)) e), omega (arith, all, pow-mono few), omega (arith, all, pow-mono few))
@@ -30,7 +36,7 @@ returns c =
 returns-2 : tie.Need-returns-2
 returns-2 c =
     let a = c .before .before .args in
-    let e : right (a .n) (a .side) (a .one) (a .zero) ≡ false = cc in
+    let e : right (a .n) (a .side) (a .one) (a .zero) ≡ false = taps-same (a .side) (a .one) (a .zero) (c .before .valid-taps .ensures) (c .if1 .left) in
     (sym (ap (λ b. lengthIf b (a .n)) e), omega arith, omega arith)
 
 pub part-length-spec : {M : Type 1} → statement M

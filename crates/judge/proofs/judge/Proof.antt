@@ -43,7 +43,10 @@ returns c =
     (ap₂ pair (one ∙ ap zeros (shown .one-long)) (zero ∙ ap zeros (shown .zero-long))) (kept ∙ ap zeros (shown .kept-long))
 
 returns-2 : tie.Need-returns-2
-returns-2 c = refuses _ _ _ _ _ _ _ _ (cc) (c .without-ranks .ensures)
+returns-2 c =
+    let x = c .before .before in
+    let k = x .before .before in
+    refuses _ _ _ _ _ _ _ _ (sym (k .judge-checks .ensures) ∙ x .x .given .1) (c .without-ranks .ensures)
 
 returns-3 : tie.Need-returns-3
 returns-3 c =

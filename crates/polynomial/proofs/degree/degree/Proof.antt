@@ -33,13 +33,19 @@ module _ (n : ℕ) (b : List ℕ) where
   accepts e h = record { answers = ap accepted h ∙ sym (verdict-passes (degreeChecks n b) _ e) }
 
 largest-weight-requires : tie.Need-largest-weight-requires
-largest-weight-requires c κs = let a = c .before .before .before .before .args in long (a .n) (a .coefficients .now) (cc)
+largest-weight-requires c κs =
+    let k = c .before .before in
+    let a = k .before .before .args in
+    long (a .n) (a .coefficients .now) (sym (k .degree-checks .ensures) ∙ c .enum-told .given .1)
 
 returns : tie.Need-returns
-returns c = refuses _ _ (cc)
+returns c = let x = c .before in let k = x .before .before in refuses _ _ (sym (k .degree-checks .ensures) ∙ x .x .given .1)
 
 returns-2 : tie.Need-returns-2
-returns-2 c = accepts _ _ (cc) (c .largest-weight .ensures)
+returns-2 c =
+    let p = c .before in
+    let k = p .before .before in
+    accepts _ _ (sym (k .degree-checks .ensures) ∙ p .enum-told .given .1) (c .largest-weight .ensures)
 
 pub degree-spec : {M : Type 1} → statement M
 degree-spec =
