@@ -9,7 +9,9 @@ slice-aggregate-result : tie.Need-slice-aggregate-result
 slice-aggregate-result c = sym (length-take-le _ _ (c .before .before .part-length .ensures .1))
 
 returns : tie.Need-returns
-returns c = record { answers = rw (c .before .before .part-length .ensures .0, eq-eqb _ _ (c .before .if1 .taken)) }
+returns c =
+    let p = c .before .before in
+    record { answers = rw (p .part-length .ensures .0, eq-eqb (p .before .before .before .args .side) 1 (c .before .if1 .taken)) }
 
 slice-aggregate-result-2 : tie.Need-slice-aggregate-result-2
 slice-aggregate-result-2 c = sym (length-take-le _ _ (c .before .before .part-length .ensures .2))

@@ -20,14 +20,6 @@ Inv-loop output₀ from mask at₀ prev₀ i₀ output at prev i =
 abbrev μ-loop : tie.MeasureT-loop
 μ-loop output₀ from mask at₀ prev₀ i₀ output at prev i = length mask - i
 
-append-varint-requires : tie.Need-append-varint-requires Inv-loop μ-loop
-append-varint-requires c κs =
-    let l = c .before .before .before .before in
-    let a = l .before .before .before in
-    let (done, passed, written, full) = l .loop .inv in
-    let next = passed-point (a .args .mask .now) passed (omega arith) (c .before .if1 .taken) in
-    (omega arith, omega (arith, a .pre .1, full, written .upto, passed-short _ next, length-append done (encodeVarint (l .loop .i - l .loop .prev))))
-
 loop-again : tie.Need-loop-again Inv-loop μ-loop
 loop-again c =
     let l = c .before .before .before in
@@ -42,6 +34,14 @@ loop-again c =
     ))
     (λ w. (done, rw (w .3) (passed-other b passed (omega arith) (w .0 .left)), appends-moved (w .1) (w .2) written, ap length (w .1) ∙ full))
     (c .if1 .came)
+
+append-varint-requires : tie.Need-append-varint-requires Inv-loop μ-loop
+append-varint-requires c κs =
+    let l = c .before .before .before .before in
+    let a = l .before .before .before in
+    let (done, passed, written, full) = l .loop .inv in
+    let next = passed-point (a .args .mask .now) passed (omega arith) (c .before .if1 .taken) in
+    (omega arith, omega (arith, a .pre .1, full, written .upto, passed-short _ next, length-append done (encodeVarint (l .loop .i - l .loop .prev))))
 
 returns : tie.Need-returns Inv-loop μ-loop
 returns c = let (done, passed, written, full) = c .before .loop .inv in appends-same (passed-all _ passed (omega arith)) written

@@ -14,18 +14,18 @@ slice-write-output c = omega (arith, ap length (varint-short (c .before .args .v
 returns : tie.Need-returns
 returns c = let one = varint-short (c .before .args .value) (omega (arith, c .if1 .taken)) in appends-same (sym one) (appends-byte _ _ _ (omega (arith, ap length one)))
 
-slice-write-output-2 : tie.Need-slice-write-output-2
-slice-write-output-2 c = omega (arith, ap length (varint-long _ (c .if1 .left)))
-
-slice-write-output-3 : tie.Need-slice-write-output-3
-slice-write-output-3 c = rw length-set (omega (arith, ap length (varint-long _ (c .if1 .left))))
-
 returns-2 : tie.Need-returns-2
 returns-2 c =
     let two = varint-long _ (c .if1 .left) in
     appends-same (sym two)
     (appends-moved refl (omega arith)
     (appends-then (omega (arith, ap length two)) (appends-byte _ _ _ (omega (arith, ap length two))) (appends-byte _ _ _ (rw length-set (omega (arith, ap length two))))))
+
+slice-write-output-2 : tie.Need-slice-write-output-2
+slice-write-output-2 c = omega (arith, ap length (varint-long _ (c .if1 .left)))
+
+slice-write-output-3 : tie.Need-slice-write-output-3
+slice-write-output-3 c = rw length-set (omega (arith, ap length (varint-long _ (c .if1 .left))))
 
 pub append-varint-spec : {M : Type 1} → statement M
 append-varint-spec =

@@ -109,7 +109,7 @@ returns-3 c =
     let r = i .before .before .before in
     let d = r .before .before .before .before in
     rw (decides d, read-as r .2, none-remain (file d) (d .draw-all .result .next) (omega arith))
-    (record { answer = refl; set = appends-whole (set-whole p) (p .append .ensures) ∙ read-as r .3; table = appends-whole (table-whole p) (q .append2 .ensures) ∙ read-as r .4 })
+    (record { answer = refl; set = appends-whole {bs = points d} (set-whole p) (p .append .ensures) ∙ read-as r .3; table = appends-whole (table-whole p) (q .append2 .ensures) ∙ read-as r .4 })
 
 pub read-numbers-spec : {M : Type 1} → statement M
 read-numbers-spec =

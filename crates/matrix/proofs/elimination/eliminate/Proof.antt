@@ -77,14 +77,15 @@ loop-again c =
     let p : KeptAt t columns (pointsTo b (a + 1)) (r .kept) (set (l .loop .points) (l .loop .kept) a) =
     kept-at-yes t columns b a (l .loop .kept) (r .kept) (l .loop .points) (eq-eqb _ _ (w .0 .taken)) (omega arith)
     (taken-count t (unpacked (l .loop .ws)) columns (pointsTo b a) (l .loop .kept) (l .loop .additions) (i .6 .1) (rw (length-rows 1024 (l .loop .ws)) (omega arith)))
-    (taken-count t (unpacked ws′) columns (pointsTo b (a + 1)) (r .kept) (l .loop .additions + r .additions) e (rw (length-rows 1024 ws′) (omega (arith, h .0 .grows)))) (i .6 .2) in (
+    (taken-count t (unpacked ws′) columns (pointsTo b (a + 1)) (r .kept) (l .loop .additions + r .additions) e (rw (length-rows 1024 ws′) (omega (arith, h .0 .grows)))) (i .6 .2) in
+    let state = moved t columns (pointsTo b (a + 1)) (w .10) (w .11) (w .12) (w .13) (w .14) (h .1, e, p) in (
       omega arith,
       omega (arith, w .13, h .0 .grows),
       omega (arith, w .14, h .0 .few),
       ap length (w .10) ∙ w .4 .kept .0 ∙ i .3,
       ap length (w .11) ∙ w .4 .kept .1 .0 ∙ i .4,
       ap length (w .12) ∙ length-set (l .loop .points) (l .loop .kept) a ∙ i .5,
-      moved t columns (pointsTo b (a + 1)) (w .10) (w .11) (w .12) (w .13) (w .14) (h .1, e, p),
+      state,
     ))
     (λ w. (
       omega arith,
