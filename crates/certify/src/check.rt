@@ -9,7 +9,6 @@ ghost use Rattle.order.specs.BuiltIn.{graded};
 ghost use Rattle.filter.specs.Part.{part as partOf};
 ghost use Rattle.immunity.specs.CertificateTest.{certifies};
 ghost use Rattle.certify.specs.Check.{checkInputs, outcomeOf, CheckContract};
-use crate::CERTIFICATE;
 use crate::checked_rows::columns_row;
 use crate::checked_rows::others_row;
 use crate::checked_rows::rows_right;
@@ -20,6 +19,7 @@ use filter::checks::check_length;
 use filter::checks::check_side;
 use filter::checks::check_taps;
 use filter::part::part_mask;
+use immunity::CERTIFICATE;
 use refusal::Refusal;
 use refusal::verdict::Verdict;
 

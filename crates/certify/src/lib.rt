@@ -23,6 +23,7 @@ use filter::checks::check_length;
 use filter::checks::check_side;
 use filter::checks::check_taps;
 use filter::part::part_mask;
+use immunity::CERTIFICATE;
 use matrix::rank::keep_points;
 use order::graded_order;
 use packed::WORKSPACE;
@@ -34,9 +35,6 @@ use refusal::verdict::Verdict;
 pub mod check; // check.rt: Check, whether numbers are a certificate
 mod checked_rows; // checked_rows.rt: the rows of a certificate, checked
 mod sums; // sums.rt: the sums of the points outside a part
-
-// The numbers of a certificate: a row for each of 512 points.
-pub const CERTIFICATE: usize = 4096;
 
 // What Certify answers.
 pub enum CertifyAnswer {

@@ -1,5 +1,8 @@
-// Restricted algebraic immunity: definitions and laws, and the two types that they share with the code.
+// Restricted algebraic immunity: definitions and laws, and the two types and the length that they share with the code.
 // docs/SPECIFICATION.md, 'Words', 'Judge', 'Witness', 'Certificate' and 'Check'.
+
+// The numbers of a certificate: a row of eight for each of 512 points.
+pub const CERTIFICATE: usize = 4096;
 
 // The ranks of the set, of part 1 and of part 0 at one degree.
 pub struct Ranks {
