@@ -1,6 +1,6 @@
 -- What Check answers.
---   inputs-as-certify    inputs that pass the checks of Check pass those of Certify with a workspace of the right length
---   check-shown          so they show what those show
+--   check-shown          inputs that pass the checks show a filter at a degree and a side
+--   check-length         and the length of the certificate
 --   check-passes         those of a filter, with a certificate of the right length, pass
 --   check-says           where they pass, the answer is whether the numbers are a certificate
 --   check-accepted       where there is an answer, they pass
@@ -8,17 +8,18 @@
 --   check-refuses        the contract, where a check is broken
 --   check-answers        and where none is
 --   rows-checked         the test of all rows by sums over supersets is that of a certificate
-use mathlib.Core.Path.{_≡_, refl, sym, ap, ap₂, _∙_}
+use mathlib.Core.Path.{_≡_, sym, ap, ap₂, _∙_}
 use mathlib.Core.Logic.{_↔_}
 use mathlib.Core.Bool.{Bool, true, _&&_}
 use mathlib.Core.List.{List}
 use Prim.Native.Nat.{ℕ, _≤_}
 use lib.ListN.{length}
-use borrow.Author.Tests.{eq-eqb}
+use borrow.Author.Tests.{eqb-true, eq-eqb}
 use Rattle.refusal.specs.Outcome.{accepted}
 use Rattle.refusal.specs.Verdict.{verdict}
 use Rattle.refusal.specs.declared.Refusal.{Refusal}
 use Rattle.refusal.specs.declared.verdict.Verdict.the-variants.{Passed, Refused}
+use Rattle.refusal.proofs.Outcomes.{accepted-value}
 use Rattle.refusal.proofs.Verdicts.{passed-all, all-passed, verdict-refuses, verdict-passes, accepted-passes}
 use Rattle.cube.specs.NumberLists.{allBelow}
 use Rattle.cube.specs.Mask.{points}
@@ -29,32 +30,29 @@ use Rattle.packed.specs.Packed.{unpack, words}
 use Rattle.filter.specs.Filter.{Filter}
 use Rattle.filter.specs.Part.{part}
 use Rattle.filter.proofs.Filters.{few-taps, set-below}
+use Rattle.filter.proofs.AtDegree.{AtDegree, at-degree, at-degree-passes}
 use Rattle.immunity.specs.Certificate.{Certifies}
 use Rattle.immunity.specs.CertificateTest.{rightRow, certifies}
 use Rattle.immunity.proofs.CertificateTest.{certifies-says}
 use Rattle.certify.specs.declared.check.CheckAnswer.{CheckAnswer}
 use Rattle.certify.specs.declared.check.CheckAnswer.the-variants as answer
-use Rattle.certify.specs.Certify.{certifyInputs}
 use Rattle.certify.specs.Check.{checkInputs, checkOutcome, outcomeOf, CheckContract}
 use Rattle.certify.specs.CheckedRows.{othersRow, columnsRow, checkedRow}
-use Rattle.certify.proofs.Compared.{Passes, certify-passed, inputs-pass}
 use Rattle.certify.proofs.CheckedRows.{row-checked}
 
 module _ (s f : List ℕ) (n side d l : ℕ) where
-  -- inputs that pass the checks of Check pass those of Certify with a workspace of the right length
-  pub inputs-as-certify : verdict (checkInputs s f n side d l) ≡ Passed → verdict (certifyInputs s f n side d 8192 l) ≡ Passed
-  inputs-as-certify e =
-      let (set, (table, rest)) = passed-all (checkInputs s f n side d l) e in
-      all-passed (certifyInputs s f n side d 8192 l) (set, (table, (refl, rest)))
+  -- inputs that pass the checks show a filter at a degree and a side
+  pub check-shown : verdict (checkInputs s f n side d l) ≡ Passed → AtDegree n s f side d
+  check-shown e = let (set, (table, (_, rest))) = passed-all (checkInputs s f n side d l) e in at-degree n s f side d set table rest
 
-  -- so they show what those show
-  pub check-shown : verdict (checkInputs s f n side d l) ≡ Passed → Passes n s f side d 8192 l
-  check-shown e = certify-passed n s f side d 8192 l (inputs-as-certify e)
+  -- and the length of the certificate
+  pub check-length : verdict (checkInputs s f n side d l) ≡ Passed → l ≡ 4096
+  check-length e = let (_, (_, (certificate, _))) = passed-all (checkInputs s f n side d l) e in eqb-true l 4096 certificate
 
   -- those of a filter, with a certificate of the right length, pass
   pub check-passes : Filter n s f → side ≤ 1 → d ≤ n → l ≡ 4096 → verdict (checkInputs s f n side d l) ≡ Passed
   check-passes h up low e =
-      let (set, (table, (_, (_, rest)))) = passed-all (certifyInputs s f n side d 8192 4096) (inputs-pass n s f side d h up low) in
+      let (set, table, rest) = at-degree-passes n s f side d (record { filter = h; low = low; up = up }) in
       all-passed (checkInputs s f n side d l) (set, (table, (eq-eqb l 4096 e, rest)))
 
 module _ (o s f : List ℕ) (n side d : ℕ) (c : List ℕ) where
@@ -66,7 +64,7 @@ module _ (o s f : List ℕ) (n side d : ℕ) (c : List ℕ) where
   -- where there is an answer, they pass
   pub check-accepted : (b : Bool) → checkOutcome o s f n side d c ≡ accepted b → (verdict (checkInputs s f n side d (length c)) ≡ Passed) × (certifies o n d (points s) (part side s f) c ≡ b)
   unfolding checkOutcome
-  check-accepted b e = let (passed, same) = accepted-passes (checkInputs s f n side d (length c)) _ b e in (passed, cc same)
+  check-accepted b e = let (passed, same) = accepted-passes (checkInputs s f n side d (length c)) _ b e in (passed, accepted-value same)
 
   -- it is yes just for a certificate
   pub check-exact : (b : Bool) → checkOutcome o s f n side d c ≡ accepted b → (b ≡ true) ↔ Certifies o n d (points s) (part side s f) c

@@ -12,11 +12,9 @@ ghost use Rattle.certify.specs.Check.{checkInputs, outcomeOf, CheckContr
 use crate::checked_rows::columns_row;
 use crate::checked_rows::others_row;
 use crate::checked_rows::rows_right;
-use filter::checks::check_degree;
+use filter::checks::check_at_degree;
 use filter::checks::check_filter_lengths;
-use filter::checks::check_filter_masks;
 use filter::checks::check_length;
-use filter::checks::check_side;
 use filter::checks::check_taps;
 use filter::part::part_mask;
 use immunity::CERTIFICATE;
@@ -72,9 +70,7 @@ fn check_inputs(
     let v = check_filter_lengths(Verdict::Passed, set, table);
     let v = check_length(v, certificate, CERTIFICATE);
     let v = check_taps(v, n);
-    let v = check_filter_masks(v, set, table, n);
-    let v = check_degree(v, d, n);
-    check_side(v, side)
+    check_at_degree(v, set, table, n, side, d)
 }
 
 // Whether the numbers are a certificate, of inputs that passed the checks.

@@ -16,11 +16,9 @@ ghost use Rattle.certify.specs.Certify.{certifyInputs, certifyOutcome, C
 use crate::sums::combine_kept;
 use crate::sums::write_certificate;
 use cube::POINTS;
-use filter::checks::check_degree;
+use filter::checks::check_at_degree;
 use filter::checks::check_filter_lengths;
-use filter::checks::check_filter_masks;
 use filter::checks::check_length;
-use filter::checks::check_side;
 use filter::checks::check_taps;
 use filter::part::part_mask;
 use immunity::CERTIFICATE;
@@ -81,9 +79,7 @@ fn certify_checks(
     let v = check_length(v, workspace, WORKSPACE);
     let v = check_length(v, certificate, CERTIFICATE);
     let v = check_taps(v, n);
-    let v = check_filter_masks(v, set, table, n);
-    let v = check_degree(v, d, n);
-    check_side(v, side)
+    check_at_degree(v, set, table, n, side, d)
 }
 
 // The same where only the ranks of the set and the part are left to compare, the columns in the order lent; the workspace

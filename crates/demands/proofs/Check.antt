@@ -31,6 +31,7 @@ use Rattle.matrix.specs.Matrix.{rankOf}
 use Rattle.filter.specs.Part.{part}
 use Rattle.filter.specs.Outside.{Outside, isOutside}
 use Rattle.filter.proofs.Filters.{few-taps}
+use Rattle.filter.proofs.AtDegree.{AtDegree}
 use Rattle.filter.proofs.Outside.{outside-says}
 use Rattle.immunity.specs.Judgement.{Judgement, judged, EqualRanks, differs, GivenEqual}
 use Rattle.immunity.specs.Certificate.{bitOf, named, Certifies, certificate}
@@ -47,8 +48,8 @@ use Rattle.certify.specs.declared.check.CheckAnswer.{CheckAnswer}
 use Rattle.certify.specs.declared.check.CheckAnswer.the-variants as answer
 use Rattle.certify.specs.Certify.{certifyInputs, ranksEqual, certifyOutcome}
 use Rattle.certify.specs.Check.{checkInputs, checkOutcome, outcomeOf, CheckAccepts}
-use Rattle.certify.proofs.Compared.{Passes, certify-passed}
-use Rattle.certify.proofs.Checked.{check-shown, check-passes, check-says, check-accepted, check-exact}
+use Rattle.certify.proofs.Compared.{certify-passed, certify-lengths}
+use Rattle.certify.proofs.Checked.{check-shown, check-length, check-passes, check-says, check-accepted, check-exact}
 use Rattle.demands.specs.Check.{Admitted, AnyCertificate}
 use Rattle.demands.proofs.CertifyWords.{certify-words}
 use Rattle.demands.proofs.Refusals.{check-refuses, same-rank}
@@ -91,8 +92,12 @@ module _ (s f : List ℕ) (n side d : ℕ) (c : List ℕ) where
   admitted b e k broken = not-both (sym (check-refuses s f n side d c k .1 broken) ∙ e)
 
   -- what the inputs show where there is an answer
-  shown : (b : Bool) → Answers b → Passes n s f side d 8192 (length c)
+  shown : (b : Bool) → Answers b → AtDegree n s f side d
   shown b e = check-shown s f n side d (length c) (check-accepted graded s f n side d c b e .0)
+
+  -- the certificate has the right length
+  long : (b : Bool) → Answers b → length c ≡ 4096
+  long b e = check-length s f n side d (length c) (check-accepted graded s f n side d c b e .0)
 
   -- no exactly where every rule holds and c is no certificate
   answers-no : Answers false ↔ (Admitted s f n side d c × (¬ Right))
@@ -130,7 +135,7 @@ module _ (s f : List ℕ) (n side d : ℕ) (c : List ℕ) where
           let out : Outside (points s) (part side s f) a = named-outside a q small entry-one in
           (out, exact true e .0 refl .sums a out .only q entry-one)
       | no large ↦
-          let past : getD c (8 * a + q / 64) 0 ≡ 0 = List·getD-eq-default c 0 {n = 8 * a + q / 64} (omega (arith, shown true e .certificate-long)) in
+          let past : getD c (8 * a + q / 64) 0 ≡ 0 = List·getD-eq-default c 0 {n = 8 * a + q / 64} (omega (arith, long true e)) in
           absurd (false≢true (rw (past, zero-div (2 ^ (q % 64))) at one))
     ]
 
@@ -144,7 +149,7 @@ module _ (s f : List ℕ) (n side d : ℕ) (c : List ℕ) where
           let place : q % 64 ≡ r = omega arith in
           let zero : bitOf c (i / 8) q ≡ false = sym (value-at (bitOf c (i / 8)) 512 q false (omega arith)) ∙ exact true e .0 refl .others (i / 8) (omega arith) other q in
           rw (number, place) at zero ∙ sym (ap odd (zero-div (2 ^ r))))
-      | no l ↦ List·getD-eq-default c 0 {n = i} (omega (arith, shown true e .certificate-long))
+      | no l ↦ List·getD-eq-default c 0 {n = i} (omega (arith, long true e))
     ]
 
     -- Judge accepts, and gives two equal ranks
@@ -227,8 +232,9 @@ module _ (s f : List ℕ) (n side d : ℕ) where
   written-yes m l c e =
       let (passed, _) = accepted-passes (certifyInputs s f n side d m l) _ c (sym (compared m l) ∙ e) in
       let p = certify-passed n s f side d m l passed in
+      let (workspace-long, certificate-long) = certify-lengths n s f side d m l passed in
       let accepts : certifyOutcome graded s f n side d 8192 4096 ≡ accepted c =
-      ap₂ (λ i j. certifyOutcome graded s f n side d i j) (sym (p .workspace-long)) (sym (p .certificate-long)) ∙ e in
+      ap₂ (λ i j. certifyOutcome graded s f n side d i j) (sym workspace-long) (sym certificate-long) ∙ e in
       let right : Certifies graded n d (points s) (part side s f) c = is-certifies (part-rising side s f) (certify-words n s f side d c accepts .is) in
       let inputs = check-passes s f n side d (length c) (p .filter) (p .up) (p .low) (right .long) in
       let says = check-says graded s f n side d c inputs in

@@ -1,11 +1,12 @@
 -- The checks that operations share, as lists that compose by `++`.
---   lengthIs k m        1: a lent buffer of k elements should have m
---   tapsOf n            4: n is from 1 to 9
---   maskOf n b          8: the mask b obeys the 0/1/0 rule of n taps
---   degreeUpTo d n      10: the degree d is at most n
---   sideUpTo1 side      11: the side is at most 1
---   filterLengths s f   1: of a set and of a table
---   filterMasks n s f   what follows the taps: 8 of the set, 8 of the table
+--   lengthIs k m            1: a lent buffer of k elements should have m
+--   tapsOf n                4: n is from 1 to 9
+--   maskOf n b              8: the mask b obeys the 0/1/0 rule of n taps
+--   degreeUpTo d n          10: the degree d is at most n
+--   sideUpTo1 side          11: the side is at most 1
+--   filterLengths s f       1: of a set and of a table
+--   filterMasks n s f       what follows the taps: 8 of the set, 8 of the table
+--   atDegree n s f side d   what follows the taps where a side and a degree are asked for: 8 of the set, 8 of the table, 10, 11
 use mathlib.Core.List.{List, [], _∷_, _++_}
 use Prim.Native.Nat.{ℕ}
 use lib.Dec.{eqb, leb}
@@ -42,3 +43,7 @@ filterLengths s f = lengthIs (length s) 512 ++ lengthIs (length f) 512
 -- what is checked of a set and a table after the taps
 abbrev pub filterMasks : ℕ → List ℕ → List ℕ → List Check
 filterMasks n s f = maskOf n s ++ maskOf n f
+
+-- what is checked after the taps where a side and a degree are asked for
+abbrev pub atDegree : ℕ → List ℕ → List ℕ → ℕ → ℕ → List Check
+atDegree n s f side d = filterMasks n s f ++ degreeUpTo d n ++ sideUpTo1 side

@@ -2,7 +2,7 @@
 // calls, one after the other.
 ghost use mathlib.Core.Path.{_≡_};
 ghost use Rattle.refusal.specs.Verdict.{from};
-ghost use Rattle.filter.specs.Checks.{lengthIs, tapsOf, maskOf, degreeUpTo, sideUpTo1, filterLengths, filterMasks};
+ghost use Rattle.filter.specs.Checks.{lengthIs, tapsOf, maskOf, degreeUpTo, sideUpTo1, filterLengths, filterMasks, atDegree};
 use cube::POINTS;
 use cube::mask::well_formed;
 use cube::valid_taps;
@@ -59,4 +59,21 @@ pub fn check_filter_masks(v: Verdict, set: &[u8], table: &[u8], n: usize) -> Ver
 {
     let v = check_mask(v, set, n);
     check_mask(v, table, n)
+}
+
+// What follows the taps where a side and a degree are asked for: the bytes of the set and of the table, the degree, the
+// side.
+pub fn check_at_degree(
+    v: Verdict,
+    set: &[u8],
+    table: &[u8],
+    n: usize,
+    side: u8,
+    d: usize,
+) -> Verdict
+    ensures { λ r. ⌜ r ≡ from v (atDegree n (now (set .entry)) (now (table .entry)) side d) ⌝ }
+{
+    let v = check_filter_masks(v, set, table, n);
+    let v = check_degree(v, d, n);
+    check_side(v, side)
 }

@@ -16,11 +16,12 @@ use Rattle.packed.specs.Packed.{unpacked, zeros}
 use Rattle.packed.proofs.Rows.{length-rows}
 use Rattle.filter.specs.Part.{part}
 use Rattle.filter.proofs.Filters.{few-taps}
+use Rattle.filter.proofs.AtDegree.{AtDegree}
 use Rattle.point_rows.specs.Workspace.{exponents, RowsFrom}
 use Rattle.point_rows.proofs.Stored.{filled-rows, stays-rows}
 use Rattle.matrix.specs.Matrix.{rankOf}
 use Rattle.immunity.proofs.PartPoints.{part-among}
-use Rattle.certify.proofs.Compared.{Passes, certify-passed}
+use Rattle.certify.proofs.Compared.{certify-passed, certify-lengths}
 use Rattle.certify.proofs.Certifying.{ranks-differ, accepts}
 use Rattle.certify.proofs.certify_points.Statement.{statement}
 use Rattle.certify.proofs.certify_points.Tie as tie
@@ -46,8 +47,12 @@ abbrev sums-of : tie.After-slice-known5 → tie.After-combine-kept
 sums-of c = c .before .before
 
 -- what the checks show
-shown : (c : tie.Start) → let a = c .args in Passes (a .n) (a .set .now) (a .table .now) (a .side) (a .d) (length (a .workspace .now)) (length (a .certificate .now))
+shown : (c : tie.Start) → let a = c .args in AtDegree (a .n) (a .set .now) (a .table .now) (a .side) (a .d)
 shown c = let a = c .args in certify-passed (a .n) (a .set .now) (a .table .now) (a .side) (a .d) (length (a .workspace .now)) (length (a .certificate .now)) (c .pre .0)
+
+-- the lengths of the workspace and of the certificate
+lengths : (c : tie.Start) → let a = c .args in (length (a .workspace .now) ≡ 8192) × (length (a .certificate .now) ≡ 4096)
+lengths c = let a = c .args in certify-lengths (a .n) (a .set .now) (a .table .now) (a .side) (a .d) (length (a .workspace .now)) (length (a .certificate .now)) (c .pre .0)
 
 -- at most nine taps
 small : (c : tie.Start) → c .args .n ≤ 9
@@ -61,7 +66,7 @@ part-mask-requires : tie.Need-part-mask-requires
 part-mask-requires c κs = let h = shown (c .before .before .before .before .before) .filter in (h .set-long, h .table-long)
 
 fill-rows-requires : tie.Need-fill-rows-requires
-fill-rows-requires c κs = let s = start (c .before) in (shown s .workspace-long, s .pre .1, small s)
+fill-rows-requires c κs = let s = start (c .before) in (lengths s .0, s .pre .1, small s)
 
 -- the mask of the part has 512 bytes
 long-part : (q : tie.After-part-mask) → length (q .part-mask .result) ≡ 512
@@ -82,7 +87,7 @@ rows f =
 
 -- the workspace keeps its length
 filled-length : (f : tie.After-fill-rows) → length (f .fill-rows .last .0) ≡ 8192
-filled-length f = f .fill-rows .kept .0 ∙ shown (start (mask-of f)) .workspace-long
+filled-length f = f .fill-rows .kept .0 ∙ lengths (start (mask-of f)) .0
 
 part-kept-requires : tie.Need-part-kept-requires
 part-kept-requires c κs =
@@ -139,7 +144,7 @@ write-certificate-requires c κs =
     let x = sums-of (c .before .before .before .before) in
     let q = mask-of (filled-of (kept-of x)) in
     let s = start q in
-    (sums-length x ∙ shown s .workspace-long, shown s .filter .set-long, long-part q, shown s .certificate-long)
+    (sums-length x ∙ lengths s .0, shown s .filter .set-long, long-part q, lengths s .1)
 
 returns-2 : tie.Need-returns-2
 returns-2 c =
