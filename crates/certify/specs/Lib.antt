@@ -1,5 +1,3 @@
--- Certify and what it does in the workspace, and Check.
+-- Certify and what it does in the workspace.
 pub mod Certify
-pub mod Check
-pub mod CheckedRows
 pub mod Sums

@@ -1,5 +1,5 @@
 // Certify: docs/SPECIFICATION.md, 'Certify'. For each point of the set outside a side's part, points of the part whose
-// rows sum to its row. Check, of certificates that anybody made, is check.rt.
+// rows sum to its row. Check, of certificates that anybody made, is the crate `checker`.
 ghost use mathlib.Core.Path.{_≡_};
 ghost use Prim.Native.Nat.{_≤_};
 ghost use lib.ListN.{length, drop};
@@ -30,8 +30,6 @@ use point_rows::fill_rows;
 use refusal::Refusal;
 use refusal::verdict::Verdict;
 
-pub mod check; // check.rt: Check, whether numbers are a certificate
-mod checked_rows; // checked_rows.rt: the rows of a certificate, checked
 mod sums; // sums.rt: the sums of the points outside a part
 
 // What Certify answers.

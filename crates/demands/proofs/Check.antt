@@ -44,12 +44,12 @@ use Rattle.immunity.proofs.Given.{equal-given}
 use Rattle.immunity.proofs.PartPoints.{part-rising, part-among}
 use Rattle.judge.specs.Judge.{JudgeAccepts}
 use Rattle.judge.proofs.Passed.{judge-accepted, judge-accepts}
-use Rattle.certify.specs.declared.check.CheckAnswer.{CheckAnswer}
-use Rattle.certify.specs.declared.check.CheckAnswer.the-variants as answer
 use Rattle.certify.specs.Certify.{certifyInputs, ranksEqual, certifyOutcome}
-use Rattle.certify.specs.Check.{checkInputs, checkOutcome, outcomeOf, CheckAccepts}
 use Rattle.certify.proofs.Compared.{certify-passed, certify-lengths}
-use Rattle.certify.proofs.Checked.{check-shown, check-length, check-passes, check-says, check-accepted, check-exact}
+use Rattle.checker.specs.declared.CheckAnswer.{CheckAnswer}
+use Rattle.checker.specs.declared.CheckAnswer.the-variants as answer
+use Rattle.checker.specs.Check.{checkInputs, checkOutcome, outcomeOf, CheckAccepts}
+use Rattle.checker.proofs.Checked.{check-shown, check-length, check-passes, check-says, check-accepted, check-exact}
 use Rattle.demands.specs.Check.{Admitted, AnyCertificate}
 use Rattle.demands.proofs.CertifyWords.{certify-words}
 use Rattle.demands.proofs.Refusals.{check-refuses, same-rank}

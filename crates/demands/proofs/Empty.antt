@@ -47,12 +47,12 @@ use Rattle.judge.proofs.Passed.{accepted-filter, judge-accepted, judge-accepts,
 use Rattle.judge.proofs.Judging.{judgement-none}
 use Rattle.certify.specs.declared.CertifyAnswer.{CertifyAnswer}
 use Rattle.certify.specs.declared.CertifyAnswer.the-variants as certified
-use Rattle.certify.specs.declared.check.CheckAnswer.{CheckAnswer}
-use Rattle.certify.specs.declared.check.CheckAnswer.the-variants as answer
 use Rattle.certify.specs.Certify.{certifyInputs, ranksEqual, certifyOutcome, CertifyContract, CertifyAccepts, clearedUnless, outcomeOf as certifyOutcomeOf}
-use Rattle.certify.specs.Check.{checkInputs, checkOutcome, outcomeOf, CheckContract, CheckAccepts}
 use Rattle.certify.proofs.Compared.{certify-accepts}
-use Rattle.certify.proofs.Checked.{check-passes, check-says}
+use Rattle.checker.specs.declared.CheckAnswer.{CheckAnswer}
+use Rattle.checker.specs.declared.CheckAnswer.the-variants as answer
+use Rattle.checker.specs.Check.{checkInputs, checkOutcome, outcomeOf, CheckContract, CheckAccepts}
+use Rattle.checker.proofs.Checked.{check-passes, check-says}
 use Rattle.text.specs.Text.{Text, ascii, digits, decimal, newline, field, labelled, joined}
 use Rattle.sheet_lines.specs.Lines.{rankLine, sidesLine, additionsLine}
 use Rattle.sheet_text.specs.Sheet.{judgementSheet, sheetOf, sheet}

@@ -33,7 +33,7 @@ use Rattle.immunity.specs.Certificate.{certificate}
 use Rattle.immunity.specs.CertificateTest.{certifies}
 use Rattle.judge.specs.Judge.{judgeChecks, judgeOutcome}
 use Rattle.certify.specs.Certify.{certifyInputs, ranksEqual, certifyOutcome}
-use Rattle.certify.specs.Check.{checkInputs, checkOutcome}
+use Rattle.checker.specs.Check.{checkInputs, checkOutcome}
 use Rattle.demands.specs.JudgementWords.{SameRank, rankRules, judgeRules, certifyRules}
 use Rattle.demands.specs.Check.{checkRules}
 use Rattle.demands.specs.Write.{writeRules}

@@ -24,10 +24,10 @@ use Rattle.immunity.specs.Judgement.{Judgement, GivenEqual}
 use Rattle.immunity.specs.Certificate.{bitOf, Certifies}
 use Rattle.judge.specs.Judge.{JudgeAccepts}
 use Rattle.certify.specs.declared.CertifyAnswer.the-variants as certified
-use Rattle.certify.specs.declared.check.CheckAnswer.{CheckAnswer}
-use Rattle.certify.specs.declared.check.CheckAnswer.the-variants as answer
 use Rattle.certify.specs.Certify.{certifyOutcome, CertifyContract}
-use Rattle.certify.specs.Check.{checkOutcome, outcomeOf, CheckContract, CheckAccepts}
+use Rattle.checker.specs.declared.CheckAnswer.{CheckAnswer}
+use Rattle.checker.specs.declared.CheckAnswer.the-variants as answer
+use Rattle.checker.specs.Check.{checkOutcome, outcomeOf, CheckContract, CheckAccepts}
 use Rattle.demands.specs.JudgementWords.{SameRank}
 
 -- 1: set, table, or a certificate of 4,096 numbers; 4; 8 for the set, then the table; 10: d over n; 11: side over 1

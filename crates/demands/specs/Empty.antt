@@ -46,10 +46,10 @@ use Rattle.judge.specs.declared.Finding.the-variants as finding
 use Rattle.judge.specs.Judge.{judgeOutcome, JudgeContract, JudgeAccepts}
 use Rattle.certify.specs.declared.CertifyAnswer.{CertifyAnswer}
 use Rattle.certify.specs.declared.CertifyAnswer.the-variants as certified
-use Rattle.certify.specs.declared.check.CheckAnswer.{CheckAnswer}
-use Rattle.certify.specs.declared.check.CheckAnswer.the-variants as answer
 use Rattle.certify.specs.Certify.{certifyOutcome, CertifyContract, CertifyAccepts}
-use Rattle.certify.specs.Check.{checkOutcome, CheckContract, CheckAccepts}
+use Rattle.checker.specs.declared.CheckAnswer.{CheckAnswer}
+use Rattle.checker.specs.declared.CheckAnswer.the-variants as answer
+use Rattle.checker.specs.Check.{checkOutcome, CheckContract, CheckAccepts}
 use Rattle.text.specs.Text.{Text, ascii, newline, decimal, labelled, joined}
 use Rattle.sheet_text.specs.Sheet.{sheet}
 

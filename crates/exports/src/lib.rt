@@ -13,7 +13,7 @@ ghost use Rattle.filter_file.specs.Read.{readOutcome};
 ghost use Rattle.filter_file.specs.Write.{writeOutcome};
 ghost use Rattle.judge.specs.Judge.{judgeOutcome};
 ghost use Rattle.certify.specs.Certify.{certifyOutcome};
-ghost use Rattle.certify.specs.Check.{checkOutcome};
+ghost use Rattle.checker.specs.Check.{checkOutcome};
 ghost use Rattle.exports.specs.Status.{statusOf};
 ghost use Rattle.exports.specs.Exported.{ReadStatus, WriteStatus, RankStatus, JudgeStatus, CertifyStatus, CheckStatus, inFront, HandOverStatus};
 use crate::report::REPORT;
@@ -21,7 +21,7 @@ use crate::report::no_point_report;
 use crate::report::report_of;
 use buffer::append;
 use certify::CertifyAnswer;
-use certify::check::CheckAnswer;
+use checker::CheckAnswer;
 use filter_file::read::ReadAnswer;
 use filter_file::write::WriteAnswer;
 use judge::Finding;
@@ -181,7 +181,7 @@ pub extern "C" fn ekthavrul_check(
 ) -> u8
     ensures { λ r. ⌜ CheckStatus (checkOutcome graded (now (set .entry)) (now (table .entry)) n side d (now (certificate .entry))) (now (yes .entry)) (now (yes .exit)) r ⌝ }
 {
-    match certify::check::check(set, table, n, side, d, certificate) {
+    match checker::check(set, table, n, side, d, certificate) {
         CheckAnswer::Refused(x) => refusal::number(x),
         CheckAnswer::Yes => {
             *yes = 1;

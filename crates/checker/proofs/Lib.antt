@@ -1,0 +1,4 @@
+-- Laws of Check.
+pub mod BuiltRows
+pub mod Checked
+pub mod CheckedRows

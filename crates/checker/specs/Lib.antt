@@ -1,0 +1,3 @@
+-- Check, and the test of a certificate's rows by sums over supersets.
+pub mod Check
+pub mod CheckedRows
