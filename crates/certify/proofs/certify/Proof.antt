@@ -13,7 +13,7 @@ certify-points-requires c κs =
     (sym (told .before .before .certify-checks .ensures) ∙ told .enum-told .given .1, subst Graded (sym (g .graded-order .ensures)) graded-is-graded)
 
 returns : tie.Need-returns
-returns c = refuses _ _ _ _ _ _ _ _ (cc)
+returns c = let x = c .before in let k = x .before .before in refuses _ _ _ _ _ _ _ _ (sym (k .certify-checks .ensures) ∙ x .x .given .1)
 
 returns-2 : tie.Need-returns-2
 returns-2 c =

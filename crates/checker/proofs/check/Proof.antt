@@ -17,7 +17,7 @@ is-certificate-requires : tie.Need-is-certificate-requires
 is-certificate-requires c κs = passed c
 
 returns : tie.Need-returns
-returns c = check-refuses _ _ _ _ _ _ _ {x = c .before .x .given .0 .0} (cc)
+returns c = let x = c .before in let k = x .before .before in check-refuses _ _ _ _ _ _ _ (sym (k .check-inputs .ensures) ∙ x .x .given .1)
 
 returns-2 : tie.Need-returns-2
 returns-2 c = let i = c .before in check-answers _ _ _ _ _ _ _ (passed (i .before)) (sym (i .is-certificate .ensures)) (c .answer-of .ensures)
