@@ -1,5 +1,4 @@
--- The demands, the sentences and the promises of the requests beside them hold, and so do the numbered cases.
-pub mod Cases
+-- The demands, and the sentences and the promises of the requests beside them, hold.
 pub mod Check
 pub mod Demand1
 pub mod Demand2

@@ -1,5 +1,4 @@
--- The demands on the whole, the sentences on ranks and judgements and the promises of the requests beside them, and the numbered cases.
-pub mod Cases
+-- The demands on the whole, and the sentences and the promises of the requests beside them.
 pub mod Check
 pub mod Demands
 pub mod Empty

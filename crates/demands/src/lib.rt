@@ -1,3 +1,2 @@
-// The demands on the whole, the sentences on ranks and judgements and the promises of the requests beside them, and the
-// numbered cases: docs/SPECIFICATION.md, 'Demands', 'Elimination' to 'Hand over', 'Write', 'Sheet' and 'Cases'. Definitions
-// and laws alone.
+// The demands on the whole, the sentences beside them and the promises of the requests: docs/SPECIFICATION.md, 'Demands',
+// 'Convert' to 'Hand over', 'Write' and 'Sheet'. Definitions and laws alone.

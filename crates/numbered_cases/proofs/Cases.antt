@@ -26,7 +26,7 @@ use Rattle.immunity.specs.Certificate.{bitOf, certificate}
 use Rattle.judge.specs.Judge.{judgeOutcome}
 use Rattle.text.specs.Text.{ascii, digits, decimal, joined}
 use Rattle.sheet_text.specs.Sheet.{judgementSheet, sheet}
-use Rattle.demands.specs.Cases.{sameList, sameOption, onAccepted, isRefused, textOf, holdsFact, holdFacts, holds, holdAll, cases}
+use Rattle.numbered_cases.specs.Cases.{sameList, sameOption, onAccepted, isRefused, textOf, holdsFact, holdFacts, holds, holdAll, cases}
 
 -- each case of the list
 pub cases-hold : holdAll cases ≡ true

@@ -1,0 +1,2 @@
+-- The numbered cases hold.
+pub mod Cases

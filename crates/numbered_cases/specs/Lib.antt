@@ -1,0 +1,2 @@
+-- The numbered cases.
+pub mod Cases

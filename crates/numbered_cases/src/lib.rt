@@ -1,0 +1,1 @@
+// The numbered cases: docs/SPECIFICATION.md, 'Cases'. Definitions and laws alone.
