@@ -14,6 +14,7 @@ pub mod JudgementWords
 pub mod Empty
 pub mod Kept
 pub mod Mark
+pub mod NormalFormWords
 pub mod Sides
 pub mod Unreached
 pub mod Weight

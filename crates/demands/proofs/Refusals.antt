@@ -1,11 +1,14 @@
 -- Refusals are by the number of the first rule that does not hold.
---   rank-refuses      what Rank refuses
---   judge-refuses     what Judge refuses
---   certify-refuses   what Certify refuses
---   check-refuses     what Check refuses
---   write-refuses     what Write refuses
---   same-rank         equal ranks are the same rank
-use mathlib.Core.Path.{_≡_, sym, _∙_, subst}
+--   coefficient-says   that some coefficient is 1, as a test
+--   same-rank          equal ranks are the same rank
+--   convert-refuses    what Convert refuses
+--   degree-refuses     what Degree refuses
+--   rank-refuses       what Rank refuses
+--   judge-refuses      what Judge refuses
+--   certify-refuses    what Certify refuses
+--   check-refuses      what Check refuses
+--   write-refuses      what Write refuses
+use mathlib.Core.Path.{_≡_, sym, ap, _∙_, subst}
 use mathlib.Core.Logic.{_↔_}
 use mathlib.Core.Bool.{true, not}
 use mathlib.Core.List.{List, _++_}
@@ -16,10 +19,14 @@ use borrow.Author.Tests.{eqb-true, eq-eqb, leb-true, le-leb, not-true, not-false
 use Rattle.refusal.specs.Rule.{FirstBroken}
 use Rattle.refusal.specs.Outcome.{refused}
 use Rattle.refusal.proofs.Rules.{nothing, _also_, refused-first}
-use Rattle.cube.specs.Mask.{points}
+use Rattle.cube.specs.NumberLists.{isEmpty, largest}
+use Rattle.cube.specs.Cube.{weight}
+use Rattle.cube.specs.Mask.{member, points}
 use Rattle.cube.proofs.Taps.{taps-range}
-use Rattle.cube.proofs.Masks.{formed-says}
+use Rattle.cube.proofs.Masks.{formed-says, has-point-says, member-points}
 use Rattle.order.specs.BuiltIn.{graded}
+use Rattle.polynomial.specs.Convert.{convertChecks, convertOutcome}
+use Rattle.polynomial.specs.Degree.{exponents, degreeChecks, degreeOutcome}
 use Rattle.gf2.specs.Rank.{Rank}
 use Rattle.gf2.proofs.Rank.{rank-unique}
 use Rattle.point_rows.specs.Rows.{rows}
@@ -36,6 +43,7 @@ use Rattle.certify.specs.Certify.{certifyInputs, ranksEqual, certifyOutcome}
 use Rattle.checker.specs.Check.{checkInputs, checkOutcome}
 use Rattle.demands.specs.JudgementWords.{SameRank, rankRules, judgeRules, certifyRules}
 use Rattle.demands.specs.Check.{checkRules}
+use Rattle.demands.specs.NormalFormWords.{convertRules, degreeRules}
 use Rattle.demands.specs.Write.{writeRules}
 
 -- two numbers are equal
@@ -60,6 +68,24 @@ equal-ranks-say n d s f side = (
   λ e. same-rank n d s f side .0 (eqb-true _ _ (not-false _ (not-true _ e))),
   λ h. let e : EqualRanks graded n s f side d = same-rank n d s f side .1 h in rw (eq-eqb _ _ e),
 )
+
+-- some coefficient is 1
+pub coefficient-says : (b : List ℕ) → (not (isEmpty (exponents b)) ≡ true) ↔ ((u : ℕ) × (member b u ≡ true))
+coefficient-says b = (
+  λ e. let (u, m) = has-point-says b .0 (not-true _ e) in (u, member-points b u .0 m),
+  λ (u, e). ap not (has-point-says b .1 (u, member-points b u .1 e)),
+)
+
+-- what Convert refuses
+pub convert-refuses : (n : ℕ) (b : List ℕ) (k : ℕ) → (convertOutcome n b ≡ refused k) ↔ FirstBroken (convertRules b n) k
+unfolding convertOutcome
+convert-refuses n b k = refused-first tt k {cs = convertChecks n b} {rs = convertRules b n} (equal-says (length b) 512 also taps-range n also formed-says n b also nothing)
+
+-- what Degree refuses
+pub degree-refuses : (n : ℕ) (b : List ℕ) (k : ℕ) → (degreeOutcome n b ≡ refused k) ↔ FirstBroken (degreeRules b n) k
+unfolding degreeOutcome
+degree-refuses n b k = refused-first (largest weight (exponents b)) k {cs = degreeChecks n b} {rs = degreeRules b n}
+    (equal-says (length b) 512 also taps-range n also formed-says n b also coefficient-says b also nothing)
 
 -- what Rank refuses
 pub rank-refuses : (b : List ℕ) (n d m l k : ℕ) → (rankOutcome graded b n d m l ≡ refused k) ↔ FirstBroken (rankRules b n d m l) k

@@ -5,6 +5,7 @@ pub mod Empty
 pub mod JudgementWords
 pub mod Kept
 pub mod Mark
+pub mod NormalFormWords
 pub mod Sides
 pub mod Weight
 pub mod Write
