@@ -6,7 +6,7 @@ use Prim.Native.Nat.{ℕ}
 use Rattle.cube.specs.NumberLists.{lists}
 use Rattle.cube.specs.Mask.{points, mask}
 use Rattle.order.specs.BuiltIn.{graded}
-use Rattle.refusal.specs.Outcome.{accepted}
+use Rattle.refusal.specs.Outcome.{refused, accepted}
 use Rattle.refusal.proofs.Verdicts.{accepted-passes}
 use Rattle.filter.specs.Part.{part}
 use Rattle.filter.specs.Outside.{outside}
@@ -17,6 +17,7 @@ use Rattle.immunity.specs.Certificate.{certificate}
 use Rattle.judge.specs.Judge.{JudgeAccepts}
 use Rattle.judge.proofs.Passed.{judge-accepted}
 use Rattle.certify.specs.Certify.{certifyInputs, ranksEqual, certifyOutcome, CertifyAccepts}
+use Rattle.text.specs.Text.{newline, labelled}
 use Rattle.sheet_lines.specs.Lines.{sumLines}
 use Rattle.sheet_text.specs.Sheet.{sideSums, judgementSheet, sheetOf, sheet}
 use Rattle.demands.specs.JudgementWords.{SheetWords}
@@ -41,6 +42,11 @@ sums-certified n s f side d c e =
     let is : certificate graded n s f side d ≡ c = cc in
     ap (λ x. sumLines side x (outside (points s) (part side s f))) is
 
+-- the line of a file that is refused
+sheet-refused : (file : List ℕ) (k : ℕ) → reading file ≡ refused k → sheet file ≡ labelled "refused" k ++ newline
+unfolding sheet
+sheet-refused file k e = ap sheetOf e
+
 -- each of them
 pub sheet-words : SheetWords
-sheet-words = record { sheet-judged = sheet-judged; sums-certified = sums-certified }
+sheet-words = record { sheet-judged = sheet-judged; sums-certified = sums-certified; sheet-refused = sheet-refused }

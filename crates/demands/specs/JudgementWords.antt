@@ -10,7 +10,7 @@
 --   JudgeWords n s f j             those on what Judge answers and leaves
 --   CertifyWords n s f side d c    those on what Certify writes for a side at degree d
 --   HandOverWords n side w handed  those on what Hand over hands back of the buffers w for a side
---   SheetWords                     those on what the sheet is made of
+--   SheetWords                     those on what the sheet is made of, and on a refused file
 --   JudgementWords                 all of them
 use mathlib.Core.Path.{_≡_}
 use mathlib.Core.Bool.{true}
@@ -51,6 +51,7 @@ use Rattle.judge.specs.Judge.{judgeOutcome, JudgeContract, JudgeAccepts}
 use Rattle.certify.specs.declared.CertifyAnswer.{CertifyAnswer}
 use Rattle.certify.specs.Certify.{certifyOutcome, CertifyContract, CertifyAccepts}
 use Rattle.hand_over.specs.HandOver.{HandOverContract}
+use Rattle.text.specs.Text.{newline, labelled}
 use Rattle.sheet_lines.specs.Lines.{sumLines}
 use Rattle.sheet_text.specs.Sheet.{sideSums, judgementSheet, sheet}
 use Rattle.demands.specs.Demands.{RankAccepts}
@@ -192,7 +193,7 @@ pub record HandOverWords (n side : ℕ) (w : Sides (List ℕ)) (handed : List �
   -- if n, the side or a length is wrong, the part is empty; that is its only refusal
   pub empty : (Taps n × (side ≤ 1) × (length (w .one) ≡ 512) × (length (w .zero) ≡ 512) → ⊥) → handed ≡ []
 
--- on what the sheet is made of
+-- on what the sheet is made of, and on a refused file
 pub record SheetWords : Type 0 where
   -- of what Judge answers and leaves for the file that is read,
   pub sheet-judged : (file : List ℕ) (c : Contents) (j : Judgement) → reading file ≡ accepted c
@@ -201,6 +202,8 @@ pub record SheetWords : Type 0 where
   -- and of what Certify writes
   pub sums-certified : (n : ℕ) (s f : List ℕ) (side d : ℕ) (c : List ℕ) → CertifyAccepts graded n s f side d c
       → sideSums n s f d side ≡ sumLines side c (outside (points s) (part side s f))
+  -- the sheet of a file that is refused is one line, `refused` and the number, whichever it is
+  pub sheet-refused : (file : List ℕ) (k : ℕ) → reading file ≡ refused k → sheet file ≡ labelled "refused" k ++ newline
 
 -- all of them
 pub record JudgementWords : Type 0 where
@@ -228,5 +231,5 @@ pub record JudgementWords : Type 0 where
   -- a refusal of Judge answers its number alone: the ranks beside it are all 0
   pub judge-number-alone : (o : Outcome Judgement) (ws ws′ : List ℕ) (w w′ : Sides (List ℕ)) (m m′ : List ℕ) (a : JudgeAnswer) (k : ℕ)
       → JudgeContract o ws ws′ w w′ m m′ a → o ≡ refused k → a .ranks ≡ replicate 10 noRanks
-  -- on what the sheet is made of
+  -- on what the sheet is made of, and on a refused file
   pub sheet : SheetWords
