@@ -14,8 +14,7 @@ use Rattle.cube.specs.Mask.{points, mask}
 use Rattle.cube.proofs.Masks.{points-inside}
 use Rattle.order.specs.BuiltIn.{graded}
 use Rattle.order.proofs.BuiltIn.{graded-is-graded}
-use Rattle.refusal.specs.Outcome.{accepted}
-use Rattle.filter.specs.Sides.{ofSide}
+use Rattle.filter.specs.Sides.{Sides, ofSide}
 use Rattle.filter.specs.Filter.{Filter}
 use Rattle.filter.specs.Part.{part}
 use Rattle.filter.proofs.Filters.{few-taps}
@@ -30,8 +29,11 @@ use Rattle.immunity.proofs.Mark.{mark-first, mark-all, equal-most, reported-mar
 use Rattle.immunity.proofs.Reported.{reported-first}
 use Rattle.immunity.proofs.NoPoint.{reported-point, mark-point}
 use Rattle.immunity.proofs.SideDegrees.{side-lowest, sides-smaller, sides-one}
-use Rattle.judge.specs.Judge.{judgeOutcome, judgementOf, found, JudgeAccepts}
-use Rattle.judge.proofs.Passed.{accepted-filter, judge-accepted, judge-accepts, found-judged}
+use Rattle.judge.specs.declared.JudgeAnswer.{JudgeAnswer}
+use Rattle.judge.specs.declared.Report.{Report}
+use Rattle.judge.specs.declared.Finding.the-variants.{Judged}
+use Rattle.judge.specs.Judge.{judgeOutcome, judgementOf, JudgeContract, JudgeAccepts}
+use Rattle.judge.proofs.Passed.{judge-accepted, judge-accepts, found-accepts, found-judged}
 use Rattle.text.specs.Text.{Text, ascii}
 use Rattle.sheet_lines.specs.Lines.{firstLine, rankLines, degreeLine, sidesLine, additionsLine}
 use Rattle.sheet_text.specs.Sheet.{sums, judgementSheet}
@@ -143,6 +145,12 @@ first-printed n s f j x e =
 words : (n : ℕ) (s f : List ℕ) (j : Judgement) → JudgeAccepts graded n s f j → MarkWords n s f j
 words n s f j e = let (h, is) = judge-accepted graded n s f j e in rw (← is) (mark-words n s f h)
 
+-- and of every report
+report-says : (n : ℕ) (s f ws ws′ : List ℕ) (w w′ : Sides (List ℕ)) (m m′ : List ℕ) (a : JudgeAnswer) (r : Report)
+    → JudgeContract (judgeOutcome graded s f n (length ws) (length (w .one)) (length (w .zero)) (length m)) ws ws′ w w′ m m′ a → a .finding ≡ Judged r
+    → MarkWords n s f (judgementOf r (a .ranks) w′ m′)
+report-says n s f ws ws′ w w′ m m′ a r h e = words n s f _ (found-accepts graded n s f ws ws′ w w′ m m′ a h _ _ e refl)
+
 -- every sentence
 pub set-mark : SetMark
 unfolding ascii
@@ -153,10 +161,9 @@ set-mark = record {
     | inl (r, is, same) ↦ inl (r, is, ap (λ (i : Judgement). i .mark) same, ap (λ (i : Judgement). i .degree) same)
     | inr (is, same) ↦ inr (is, sym (ap (λ (i : Judgement). i .mark) same), sym (ap (λ (i : Judgement). i .degree) same))
   ];
+  report-says = report-says;
   report-below = λ n s f ws ws′ w w′ m m′ a r h e.
-      let is : judgeOutcome graded s f n (length ws) (length (w .one)) (length (w .zero)) (length m) ≡ accepted (judgementOf r (a .ranks) w′ m′) = sym (ap (λ x. found x (a .ranks) w′ m′) (sym e) ∙ h .answers) in
-      let (filter, same) = accepted-filter graded s f n _ _ _ _ _ is in
-      let x : MarkWords n s f (judgementOf r (a .ranks) w′ m′) = rw (← same) (mark-words n s f filter) in
+      let x : MarkWords n s f (judgementOf r (a .ranks) w′ m′) = report-says n s f ws ws′ w w′ m m′ a r h e in
       (x .reported-below (r .degree) (r .mark) refl refl, x .first (r .mark) .0 refl .within);
   printed = λ file c j m e h mark.
       let (rest, first) = first-printed (c .n) (mask (lists (c .set))) (mask (lists (c .table))) j (some m) mark in

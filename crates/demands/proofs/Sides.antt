@@ -21,7 +21,8 @@ use Rattle.immunity.proofs.Given.{equal-given}
 use Rattle.immunity.proofs.Reported.{reported-first}
 use Rattle.immunity.proofs.NoPoint.{own-point, side-point}
 use Rattle.immunity.proofs.SideDegrees.{side-first, side-equal, side-annihilates, side-lowest, side-whole, side-other, sides-smaller, side-most, side-is-1}
-use Rattle.judge.proofs.Passed.{judge-accepted, found-judged}
+use Rattle.judge.specs.Judge.{JudgeAccepts}
+use Rattle.judge.proofs.Passed.{judge-accepted, found-accepts, found-judged}
 use Rattle.text.specs.Text.{Text, ascii, newline, labelled, fields}
 use Rattle.sheet_text.specs.Sheet.{judgementSheet}
 use Rattle.demands.specs.Sides.{FirstDifference, SidesWords, BothSides}
@@ -82,19 +83,25 @@ module _ (n : ℕ) (s f : List ℕ) (p : Filter n s f) where
             ∙ side-other graded-is-graded small s f side other apart (side-whole graded-is-graded small s f side inside .0 (sym (own side l) ∙ e)) a point;
       }
 
+-- each sentence of what Judge accepts
+words : (n : ℕ) (s f : List ℕ) (j : Judgement) → JudgeAccepts graded n s f j → SidesWords n s f j
+words n s f j e = let (h, is) = judge-accepted graded n s f j e in rw (← is) (sides-words n s f h)
+
 -- every sentence
 pub both-sides : BothSides
 unfolding judgementSheet ascii
 both-sides = record {
-  every = λ n s f j e. let (h, is) = judge-accepted graded n s f j e in rw (← is) (sides-words n s f h);
+  every = words;
   answered = λ o ws ws′ w w′ m m′ a j h e. elim (found-judged (a .finding) (a .ranks) w′ m′ j (h .answers ∙ e)) [
     | inl (r, is, same) ↦ inl (r, is, ap (λ (i : Judgement). i .degrees) same, ap (λ (i : Judgement). i .degree) same, ap (λ (i : Judgement). i .side) same)
     | inr (is, same) ↦ inr (is, sym (ap (λ (i : Judgement). i .degrees) same), sym (ap (λ (i : Judgement). i .degree) same), sym (ap (λ (i : Judgement). i .side) same))
   ];
+  report-says = λ n s f ws ws′ w w′ m m′ a r h e. words n s f _ (found-accepts graded n s f ws ws′ w w′ m m′ a h _ _ e refl);
   degree-printed = λ k side ws.
       let w : Text = fields (select (member (ofSide side ws)) graded) in
       ap (λ x. x ++ newline) (sym (append-assoc (labelled "degree" k) (labelled " side" side ++ ascii " witness") w)
       ∙ ap (λ x. x ++ w) (sym (append-assoc (labelled "degree" k) (labelled " side" side) (ascii " witness"))));
   sides-printed = λ x y. (refl, refl, refl);
+  none-printed = λ ws. (refl, refl);
   printed = λ file c j e h. sheet-words .sheet-judged file c j e h;
 }

@@ -3,7 +3,7 @@
 --   Exceeds s j d         twice the rank that the judgement j gives the set s at degree d exceeds the number of points of s
 --   FirstExceeds n s j m  m is the first degree from 0 to n at which it does
 --   MarkWords n s f j     what is promised of one n, set and table
---   SetMark               the same of all that Judge accepts; on one set no filter reaches it; what Judge answers and the first line of the sheet have it
+--   SetMark               the same of all that Judge accepts and of every report; on one set no filter reaches it; what Judge answers and the first line of the sheet have it
 use mathlib.Core.Path.{_≡_}
 use mathlib.Core.Logic.{_↔_, _⊎_, _≢_}
 use mathlib.Core.List.{List, _++_}
@@ -27,7 +27,7 @@ use Rattle.immunity.specs.Judgement.{Judgement, setRank, GivenEqual}
 use Rattle.judge.specs.declared.JudgeAnswer.{JudgeAnswer}
 use Rattle.judge.specs.declared.Report.{Report}
 use Rattle.judge.specs.declared.Finding.the-variants.{NoPoint, Judged}
-use Rattle.judge.specs.Judge.{judgeOutcome, JudgeContract, JudgeAccepts}
+use Rattle.judge.specs.Judge.{judgeOutcome, judgementOf, JudgeContract, JudgeAccepts}
 use Rattle.text.specs.Text.{Text, ascii, labelled, newline}
 use Rattle.sheet_text.specs.Sheet.{sheet}
 
@@ -75,12 +75,16 @@ pub record SetMark : Type 0 where
   -- a filter does not always reach it: on the points 0 to 16 of five taps the mark is 2, and every filter has degree 0 or 1
   pub unreached : let s : List ℕ = mask (λ u. ltb u 17) in ((f : List ℕ) × (j : Judgement) × JudgeAccepts graded 5 s f j)
       × ((f : List ℕ) (j : Judgement) → JudgeAccepts graded 5 s f j → (j .mark ≡ some 2) × ((k : ℕ) → j .degree ≡ some k → k ≤ 1))
-  -- what is answered has it, beside the reported degree; or `NoPoint` stands for neither,
+  -- what is answered has it, beside the reported degree; or `NoPoint` stands for neither
   pub answered : (o : Outcome Judgement) (ws ws′ : List ℕ) (w w′ : Sides (List ℕ)) (m m′ : List ℕ) (a : JudgeAnswer) (j : Judgement)
       → JudgeContract o ws ws′ w w′ m m′ a → o ≡ accepted j
       → ((r : Report) × (a .finding ≡ Judged r) × (some (r .mark) ≡ j .mark) × (some (r .degree) ≡ j .degree))
       ⊎ ((a .finding ≡ NoPoint) × (j .mark ≡ none) × (j .degree ≡ none))
-  -- and in every report of Judge the degree is at most the mark, and the mark at most n
+  -- every report of Judge, lent buffers of any lengths, says so of the mark, with the ranks that are answered beside it;
+  pub report-says : (n : ℕ) (s f ws ws′ : List ℕ) (w w′ : Sides (List ℕ)) (m m′ : List ℕ) (a : JudgeAnswer) (r : Report)
+      → JudgeContract (judgeOutcome graded s f n (length ws) (length (w .one)) (length (w .zero)) (length m)) ws ws′ w w′ m m′ a → a .finding ≡ Judged r
+      → MarkWords n s f (judgementOf r (a .ranks) w′ m′)
+  -- so in every report the degree is at most the mark, and the mark at most n
   pub report-below : (n : ℕ) (s f ws ws′ : List ℕ) (w w′ : Sides (List ℕ)) (m m′ : List ℕ) (a : JudgeAnswer) (r : Report)
       → JudgeContract (judgeOutcome graded s f n (length ws) (length (w .one)) (length (w .zero)) (length m)) ws ws′ w w′ m m′ a → a .finding ≡ Judged r
       → (r .degree ≤ r .mark) × (r .mark ≤ n)

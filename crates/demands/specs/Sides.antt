@@ -2,7 +2,7 @@
 -- answers and leaves: docs/SPECIFICATION.md, 'Judge' and 'Sheet'.
 --   FirstDifference n j side d   d is the first degree from 0 to n at which the two ranks that the judgement j gives for a side differ
 --   SidesWords n s f j           what is promised of one n, set and table
---   BothSides                    the same of all that Judge accepts; what Judge answers and the sheet have these degrees
+--   BothSides                    the same of all that Judge accepts and of every report; what Judge answers and the sheet have these degrees
 use mathlib.Core.Path.{_≡_}
 use mathlib.Core.Logic.{_↔_, _⊎_, _≢_}
 use mathlib.Core.List.{List, _++_}
@@ -24,7 +24,7 @@ use Rattle.immunity.specs.Judgement.{Judgement, GivenEqual}
 use Rattle.judge.specs.declared.JudgeAnswer.{JudgeAnswer}
 use Rattle.judge.specs.declared.Report.{Report}
 use Rattle.judge.specs.declared.Finding.the-variants.{NoPoint, Judged}
-use Rattle.judge.specs.Judge.{JudgeContract, JudgeAccepts}
+use Rattle.judge.specs.Judge.{judgeOutcome, judgementOf, JudgeContract, JudgeAccepts}
 use Rattle.text.specs.Text.{ascii, newline, field, labelled, fields}
 use Rattle.sheet_lines.specs.Lines.{firstLine, rankLines, degreeLine, sidesLine, additionsLine}
 use Rattle.sheet_text.specs.Sheet.{sums, sheet}
@@ -68,11 +68,17 @@ pub record BothSides : Type 0 where
       → JudgeContract o ws ws′ w w′ m m′ a → o ≡ accepted j
       → ((r : Report) × (a .finding ≡ Judged r) × (degreesOf (r .one) (r .zero) ≡ j .degrees) × (some (r .degree) ≡ j .degree) × (some (r .side) ≡ j .side))
       ⊎ ((a .finding ≡ NoPoint) × (j .degrees ≡ pair none none) × (j .degree ≡ none) × (j .side ≡ none))
-  -- the degree line has the degree, the side and that side's witness, and the line after it each side's own degree or `none`
+  -- every report of Judge, lent buffers of any lengths, says so of each side's degree, with the ranks that are answered beside it
+  pub report-says : (n : ℕ) (s f ws ws′ : List ℕ) (w w′ : Sides (List ℕ)) (m m′ : List ℕ) (a : JudgeAnswer) (r : Report)
+      → JudgeContract (judgeOutcome graded s f n (length ws) (length (w .one)) (length (w .zero)) (length m)) ws ws′ w w′ m m′ a → a .finding ≡ Judged r
+      → SidesWords n s f (judgementOf r (a .ranks) w′ m′)
+  -- the degree line has the degree, the side and that side's witness, and the line after it each side's own degree or `none`;
   pub degree-printed : (k side : ℕ) (ws : Sides (List ℕ)) → degreeLine (some k) (some side) ws
       ≡ labelled "degree" k ++ labelled " side" side ++ ascii " witness" ++ fields (select (member (ofSide side ws)) graded) ++ newline
   pub sides-printed : (x y : ℕ) → (sidesLine (pair (some x) (some y)) ≡ ascii "sides" ++ field x ++ field y ++ newline)
       × (sidesLine (pair (some x) none) ≡ ascii "sides" ++ field x ++ ascii " none" ++ newline) × (sidesLine (pair none (some y)) ≡ ascii "sides" ++ ascii " none" ++ field y ++ newline)
+  -- without a degree and without a side they have `none` alone
+  pub none-printed : (ws : Sides (List ℕ)) → (degreeLine none none ws ≡ ascii "degree none" ++ newline) × (sidesLine (pair none none) ≡ ascii "sides none none" ++ newline)
   -- the sheet of a file that is read prints them on the line after the degree line: the whole sheet, line by line
   pub printed : (file : List ℕ) (c : Contents) (j : Judgement) → reading file ≡ accepted c
       → let s : List ℕ = mask (lists (c .set)) in let f : List ℕ = mask (lists (c .table)) in

@@ -4,10 +4,12 @@
 --   accepted-filter     what is accepted is a filter, and is judged as the definition says
 --   judge-accepted      the same of what Judge accepts, lent the right lengths
 --   judge-accepts       each filter is accepted
+--   accepts-right       what is accepted of any lengths Judge accepts, lent the right ones
+--   found-accepts       so does it what it finds, lent buffers of any lengths
 --   found-judged        what is found and accepted is a report that states the judgement, or no point
 --   Fits j              the judgement j fits a report: ranks at ten degrees, degrees up to 9 and a side up to 1
 --   accepted-fits       so does each that is accepted
-use mathlib.Core.Path.{_≡_, refl, _∙_}
+use mathlib.Core.Path.{_≡_, refl, sym, ap, _∙_}
 use mathlib.Core.Logic.{_⊎_, inl, inr}
 use mathlib.Core.List.{List}
 use mathlib.Core.Option.{some}
@@ -30,10 +32,11 @@ use Rattle.immunity.specs.Judgement.{Judgement, eitherDiffers, reported, sideDe
 use Rattle.immunity.proofs.FirstUpTo.{first-degree}
 use Rattle.immunity.proofs.Mark.{mark-first}
 use Rattle.immunity.proofs.SideDegrees.{side-first, side-most}
+use Rattle.judge.specs.declared.JudgeAnswer.{JudgeAnswer}
 use Rattle.judge.specs.declared.Finding.{Finding}
 use Rattle.judge.specs.declared.Finding.the-variants.{Refused, NoPoint, Judged}
 use Rattle.judge.specs.declared.Report.{Report}
-use Rattle.judge.specs.Judge.{judgeChecks, judgeOutcome, judgementOf, noPointJudgement, found, JudgeAccepts}
+use Rattle.judge.specs.Judge.{judgeChecks, judgeOutcome, judgementOf, noPointJudgement, found, JudgeContract, JudgeAccepts}
 
 -- what checks that pass show
 pub record Passes (n : ℕ) (s f : List ℕ) (m p q l : ℕ) : Type 0 where
@@ -75,6 +78,17 @@ module _ (o : List ℕ) (n : ℕ) (s f : List ℕ) where
   judge-accepts h =
       verdict-passes (judgeChecks s f n 8192 512 512 512) (accepted (judged o n s f)) (all-passed (judgeChecks s f n 8192 512 512 512)
       (eq-eqb (length s) 512 (h .set-long), (eq-eqb (length f) 512 (h .table-long), (refl, (refl, (refl, (refl, (h .tapped, passes n s f h))))))))
+
+  -- what is accepted of any lengths Judge accepts, lent the right ones
+  pub accepts-right : (m p q l : ℕ) (j : Judgement) → judgeOutcome o s f n m p q l ≡ accepted j → JudgeAccepts o n s f j
+  accepts-right m p q l j e = let (h, is) = accepted-filter o s f n m p q l j e in judge-accepts h ∙ ap accepted is
+
+  -- so does it what it finds, lent buffers of any lengths
+  pub found-accepts : (ws ws′ : List ℕ) (w w′ : Sides (List ℕ)) (m m′ : List ℕ) (a : JudgeAnswer)
+      → JudgeContract (judgeOutcome o s f n (length ws) (length (w .one)) (length (w .zero)) (length m)) ws ws′ w w′ m m′ a
+      → (x : Finding) (j : Judgement) → a .finding ≡ x → found x (a .ranks) w′ m′ ≡ accepted j → JudgeAccepts o n s f j
+  found-accepts ws ws′ w w′ m m′ a h x j e is =
+      accepts-right (length ws) (length (w .one)) (length (w .zero)) (length m) j (sym (h .answers) ∙ ap (λ y. found y (a .ranks) w′ m′) e ∙ is)
 
 -- what is found and accepted is a report that states the judgement, or no point, where it has nothing but ranks and buffers
 pub found-judged : (x : Finding) (ranks : List Ranks) (w : Sides (List ℕ)) (m : List ℕ) (j : Judgement) → found x ranks w m ≡ accepted j
