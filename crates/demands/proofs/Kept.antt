@@ -7,8 +7,10 @@ use mathlib.Core.Bool.{Bool, true, false}
 use mathlib.Core.List.{List, []}
 use mathlib.Core.Option.{some}
 use Prim.Native.Nat.{ℕ, _≤_, _<_}
+use native.Mathlib.Omega.{arith}
 use lib.Dec.{eqb}
 use lib.ListN.{length, getD}
+use lib.Pow.{pow-mono}
 use borrow.Author.Tests.{ne-eqb}
 use Rattle.refusal.specs.declared.Refusal.the-variants.{Length}
 use Rattle.refusal.specs.Outcome.{Outcome, refused, accepted, _otherwise_, after, leftBy}
@@ -16,9 +18,11 @@ use Rattle.refusal.specs.declared.verdict.Verdict.the-variants as verdicts
 use Rattle.refusal.specs.Verdict.{verdict}
 use Rattle.refusal.proofs.Outcomes.{not-both, accepted-value}
 use Rattle.refusal.proofs.Verdicts.{checked-append, accepted-passes}
-use Rattle.cube.specs.NumberLists.{Inside}
+use Rattle.cube.specs.NumberLists.{lists, Inside}
 use Rattle.cube.specs.Cube.{taps, size}
-use Rattle.cube.specs.Mask.{WellFormed, member, byte, points}
+use Rattle.cube.specs.Mask.{member, byte, points, mask}
+use Rattle.cube.proofs.Listed.{lists-member}
+use Rattle.cube.proofs.MaskOf.{length-mask, mask-well-formed}
 use Rattle.cube.proofs.Masks.{byte-small, byte-member, formed-says, points-inside}
 use Rattle.cube.proofs.Taps.{taps-range}
 use Rattle.order.specs.BuiltIn.{graded}
@@ -35,7 +39,7 @@ use Rattle.matrix.specs.declared.rank.Ranked.{Ranked}
 use Rattle.matrix.specs.declared.rank.RankAnswer.{RankAnswer}
 use Rattle.matrix.specs.declared.rank.RankAnswer.the-variants as rank
 use Rattle.matrix.specs.Rank.{Ranking, ranking, rankingOf, rankOutcome, outcomeOf as rankOutcomeOf, RankContract}
-use Rattle.matrix.proofs.KeptMask.{kept-long, kept-formed, kept-marked, kept-as-many, kept-again}
+use Rattle.matrix.proofs.KeptMask.{points-lists, kept-long, kept-formed, kept-marked, kept-as-many, kept-again}
 use Rattle.matrix.proofs.RankOf.{rank-of, rank-accepts, passed}
 use Rattle.matrix.proofs.Ranked.{Passes, rank-passed}
 use Rattle.matrix.proofs.Rising.{points-rising}
@@ -54,7 +58,7 @@ use Rattle.judge.specs.declared.JudgeAnswer.{JudgeAnswer}
 use Rattle.judge.specs.declared.Report.{Report}
 use Rattle.judge.specs.declared.Finding.the-variants as finding
 use Rattle.judge.specs.Judge.{judgeOutcome, judgementOf, found, JudgeContract}
-use Rattle.judge.proofs.Passed.{accepted-filter}
+use Rattle.judge.proofs.Passed.{judge-accepted, found-accepts}
 use Rattle.immunity.specs.Certificate.{bitOf}
 use Rattle.certify.specs.Certify.{certifyInputs, ranksEqual, certifyOutcome, PartKept, CertifyAccepts}
 use Rattle.certify.proofs.Compared.{certify-passed}
@@ -166,7 +170,7 @@ module _ (n : ℕ) (s f ws ws′ : List ℕ) (w w′ : Sides (List ℕ)) (m m′
   where
     -- what Judge accepts is a filter, and what it answers and leaves is the definition's
     judge-shown : Filter n s f × (judged graded n s f ≡ judgementOf r (a .ranks) w′ m′)
-    judge-shown = accepted-filter graded s f n _ _ _ _ _ (sym (ap (λ x. found x (a .ranks) w′ m′) (sym e) ∙ h .answers))
+    judge-shown = judge-accepted graded n s f _ (found-accepts graded n s f ws ws′ w w′ m m′ a h _ _ e refl)
 
     -- the degree is the reported one
     degree-is : reported graded n s f ≡ some (r .degree)
@@ -210,7 +214,7 @@ judge-none : (n : ℕ) (s f ws ws′ : List ℕ) (w w′ : Sides (List ℕ)) (m 
     → (m′ ≡ zeros 512) × ((d : ℕ) → d ≤ n → KeptWords n d (points s) m′ × ((x : Ranking) × RankAccepts s n d x × (x .kept ≡ m′)))
 unfolding judged keptMask eliminated takePoints
 judge-none n s f ws ws′ w w′ m m′ a h e =
-    let (filter, is) = accepted-filter graded s f n _ _ _ _ _ (sym (ap (λ x. found x (a .ranks) w′ m′) (sym e) ∙ h .answers)) in
+    let (filter, is) = judge-accepted graded n s f _ (found-accepts graded n s f ws ws′ w w′ m m′ a h _ _ e refl) in
     let empty : points s ≡ [] = none-empty graded-is-graded n s f filter (ap (λ (j : Judgement). j .degree) is) in
     let zero : m′ ≡ zeros 512 = sym (ap (λ (j : Judgement). j .kept) is) ∙ kept-none graded n s f empty in
     let left : (d : ℕ) → keptMask graded n d (points s) ≡ m′ = λ d. ap (keptMask graded n d) empty ∙ mask-none ∙ sym zero in (
@@ -234,10 +238,17 @@ module _ (n : ℕ) (s f : List ℕ) (side d k l : ℕ) (b m : List ℕ) (checks 
       (kept-words n d (part side s f) (p .filter .tapped) (p .low) (part-rising side s f) (part-inside side (size n) s f (points-inside n s (p .filter .set-formed))))
 
   -- it is Rank's
-  certify-ranked : length b ≡ 512 → WellFormed n b → (x : Ranking) × RankAccepts b n d x × (x .kept ≡ m)
-  certify-ranked long formed =
+  certify-ranked : (x : Ranking) × RankAccepts (mask (lists (part side s f))) n d x × (x .kept ≡ m)
+  certify-ranked =
       let p = certify-passed n s f side d k l checks in
-      (ranking graded n d (points b), rank-accepts graded b n d long (p .filter .tapped) (formed-says n b .1 formed) (p .low), sym kept)
+      let ps : List ℕ = part side s f in
+      let inside : Inside (size n) ps = part-inside side (size n) s f (points-inside n s (p .filter .set-formed)) in
+      let same : points (mask (lists ps)) ≡ ps = points-lists ps (part-rising side s f) (λ u i. omega (arith, inside u i, pow-mono (few-taps n s f (p .filter)))) in
+      let formed = mask-well-formed n (lists ps) (λ v e. inside v (lists-member ps v .0 e)) in (
+        ranking graded n d (points (mask (lists ps))),
+        rank-accepts graded (mask (lists ps)) n d (length-mask (lists ps)) (p .filter .tapped) formed (p .low),
+        ap (keptMask graded n d) same ∙ certify-left,
+      )
 
 -- a point that the certificate names is marked
 certify-named : (n : ℕ) (s f : List ℕ) (side d : ℕ) (c b m : List ℕ) → CertifyAccepts graded n s f side d c → points b ≡ part side s f → PartKept graded n d b m
@@ -261,6 +272,6 @@ kept-masks = record {
   judge-refusal = λ n s f ws ws′ w w′ m m′ a x h e. h .leaves-kept ∙ ap (λ (o : Outcome Judgement). leftBy o m (λ j. j .kept)) (sym (ap (λ y. found y (a .ranks) w′ m′) (sym e) ∙ h .answers));
   judge-length = λ n s f ws ws′ w w′ m m′ a other h. h .answers ∙ judge-short s f n (length ws) (length (w .one)) (length (w .zero)) (length m) other;
   certify-marks = certify-kept;
-  certify-as-rank = λ n s f side d k l b m checks long formed parts kept. certify-ranked n s f side d k l b m checks parts kept long formed;
+  certify-as-rank = certify-ranked;
   certify-names = certify-named;
 }

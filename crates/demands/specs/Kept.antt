@@ -8,7 +8,8 @@ use mathlib.Core.Bool.{true}
 use mathlib.Core.List.{List, List·Memᴰ}
 use Prim.Native.Nat.{ℕ, _≤_, _<_}
 use lib.ListN.{length, getD}
-use Rattle.cube.specs.Mask.{WellFormed, member, points}
+use Rattle.cube.specs.NumberLists.{lists}
+use Rattle.cube.specs.Mask.{WellFormed, member, points, mask}
 use Rattle.order.specs.BuiltIn.{graded}
 use Rattle.refusal.specs.declared.Refusal.{Refusal}
 use Rattle.refusal.specs.declared.verdict.Verdict.the-variants.{Passed}
@@ -91,9 +92,9 @@ pub record KeptMasks : Type 0 where
   -- where Certify's checks of its inputs pass, the mask that it goes by (what `part_kept` answers for a mask b of the part, and `combine_kept` asks for) marks the kept points of the part at d,
   pub certify-marks : (n : ℕ) (s f : List ℕ) (side d k l : ℕ) (b m : List ℕ) → verdict (certifyInputs s f n side d k l) ≡ Passed
       → points b ≡ part side s f → PartKept graded n d b m → KeptWords n d (part side s f) m
-  -- it is the mask that Rank leaves for the part at d,
+  -- it is the mask that Rank leaves for the part at d, lent the 512 bytes that mark the part,
   pub certify-as-rank : (n : ℕ) (s f : List ℕ) (side d k l : ℕ) (b m : List ℕ) → verdict (certifyInputs s f n side d k l) ≡ Passed
-      → length b ≡ 512 → WellFormed n b → points b ≡ part side s f → PartKept graded n d b m → (x : Ranking) × RankAccepts b n d x × (x .kept ≡ m)
+      → points b ≡ part side s f → PartKept graded n d b m → (x : Ranking) × RankAccepts (mask (lists (part side s f))) n d x × (x .kept ≡ m)
   -- and the certificate names no point but those that it marks
   pub certify-names : (n : ℕ) (s f : List ℕ) (side d : ℕ) (c b m : List ℕ) → CertifyAccepts graded n s f side d c → points b ≡ part side s f → PartKept graded n d b m
       → (a q : ℕ) → q < 512 → bitOf c a q ≡ true → member m q ≡ true
