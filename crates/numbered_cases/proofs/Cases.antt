@@ -26,11 +26,11 @@ use Rattle.immunity.specs.Certificate.{bitOf, certificate}
 use Rattle.judge.specs.Judge.{judgeOutcome}
 use Rattle.text.specs.Text.{ascii, digits, decimal, joined}
 use Rattle.sheet_text.specs.Sheet.{judgementSheet, sheet}
-use Rattle.numbered_cases.specs.Cases.{sameList, sameOption, onAccepted, isRefused, textOf, holdsFact, holdFacts, holds, holdAll, cases}
+use Rattle.numbered_cases.specs.Cases.{sameList, sameOption, onAccepted, isRefused, textOf, all, judgedSo, holdsFact, holds, cases}
 
 -- each case of the list
-pub cases-hold : holdAll cases ≡ true
-unfolding holdAll cases holds holdFacts holdsFact sameList sameOption onAccepted isRefused textOf
+pub cases-hold : all holds cases ≡ true
+unfolding cases holds holdsFact judgedSo all sameList sameOption onAccepted isRefused textOf
     convertLeaves convertOutcome converted values degreeOutcome largest value sumBelow
     encode encodeList differences encodeVarint readOutcome contents twoLists pointList pointsFrom varint groups
     sheet judgementSheet joined decimal digits ascii

@@ -1,4 +1,5 @@
 -- The numbered cases of docs/SPECIFICATION.md, 'Cases', as one list of inputs and expected answers.
+--   JudgeFact       an answer of Judge that is expected
 --   Fact            an answer that is expected
 --   Case            the number of taps, the points of the set, the points where the table is 1, and the expected answers
 --   sameList xs ys  whether two lists are the same
@@ -6,10 +7,10 @@
 --   onAccepted t o  whether an outcome accepts, with values that pass the test t
 --   isRefused k o   whether an outcome is a refusal by the number k
 --   textOf ls       the text of lines
---   holdsFact ..    whether a fact is so
---   holdFacts ..    whether each fact of a list is so
+--   all t xs        whether each member of a list passes the test t
+--   judgedSo n j    whether a fact is so of the judgement j of n taps
+--   holdsFact c     whether a fact is so of a case
 --   holds c         whether each fact of a case is so
---   holdAll cs      whether each case of a list is so
 --   cases           the list
 use mathlib.Core.Bool.{Bool, true, false, _&&_}
 use mathlib.Core.List.{List, [], _∷_, _++_, map}
@@ -18,7 +19,7 @@ use Prim.Native.Nat.{ℕ, _+_}
 use Prim.Native.String.{String}
 use lib.Dec.{eqb}
 use Rattle.cube.specs.NumberLists.{below, select, lists}
-use Rattle.cube.specs.Mask.{member, points, mask}
+use Rattle.cube.specs.Mask.{member, mask}
 use Rattle.order.specs.BuiltIn.{graded}
 use Rattle.refusal.specs.Outcome.{Outcome, refused, accepted}
 use Rattle.polynomial.specs.Convert.{convertOutcome, convertLeaves}
@@ -31,6 +32,25 @@ use Rattle.judge.specs.Judge.{judgeOutcome}
 use Rattle.text.specs.Text.{Text, ascii, newline}
 use Rattle.sheet_text.specs.Sheet.{sheet}
 
+-- an answer of Judge that is expected
+pub data JudgeFact : Type 0 where
+  -- at a degree, the set, part 1 and part 0 have these ranks
+  ranks : ℕ → ℕ → ℕ → ℕ → JudgeFact
+  -- at the degrees from 0 to n, the set has these ranks
+  setRanks : List ℕ → JudgeFact
+  -- the set has this mark, or none
+  mark : Option ℕ → JudgeFact
+  -- this degree is reported, or none
+  degree : Option ℕ → JudgeFact
+  -- and this side, or none
+  side : Option ℕ → JudgeFact
+  -- and these as the own degrees of side 1 and side 0
+  sides : Option ℕ → Option ℕ → JudgeFact
+  -- the witness of a side has these exponents, in graded order
+  witness : ℕ → List ℕ → JudgeFact
+  -- the mask of kept points is 1 at these points of the set, and 0 elsewhere
+  kept : List ℕ → JudgeFact
+
 -- an answer that is expected
 pub data Fact : Type 0 where
   -- Convert accepts the table, and turns it into these coefficients, named by their exponents
@@ -39,22 +59,8 @@ pub data Fact : Type 0 where
   noDegree : ℕ → Fact
   -- Rank gives the set at a degree this rank
   rank : ℕ → ℕ → Fact
-  -- at a degree, Judge gives the set, part 1 and part 0 these ranks
-  ranks : ℕ → ℕ → ℕ → ℕ → Fact
-  -- at the degrees from 0 to n, Judge gives the set these ranks
-  setRanks : List ℕ → Fact
-  -- Judge gives the set this mark, or none
-  mark : Option ℕ → Fact
-  -- Judge reports this degree, or none
-  degree : Option ℕ → Fact
-  -- and this side, or none
-  side : Option ℕ → Fact
-  -- and these as the own degrees of side 1 and side 0
-  sides : Option ℕ → Option ℕ → Fact
-  -- the witness of a side has these exponents, in graded order
-  witness : ℕ → List ℕ → Fact
-  -- Judge keeps these points of the set
-  kept : List ℕ → Fact
+  -- Judge accepts the set and the table, and answers and leaves this
+  judgement : List JudgeFact → Fact
   -- the file of n, the set and the table has these bytes, and its sheet these lines
   printed : List ℕ → List String → Fact
 
@@ -94,37 +100,38 @@ unfoldable pub textOf : List String → Text
 textOf [] = []
 textOf (l ∷ ls) = ascii l ++ newline ++ textOf ls
 
--- whether a fact is so of a case with the set s and the table f, where Judge's outcome is o
-unfoldable pub holdsFact : Case → List ℕ → List ℕ → Outcome Judgement → Fact → Bool
-holdsFact c s f o (coefficients us) = onAccepted (λ x. sameList (exponents (convertLeaves (c .taps) f)) us) (convertOutcome (c .taps) f)
-holdsFact c s f o (noDegree k) = onAccepted (λ x. isRefused k (degreeOutcome (c .taps) (convertLeaves (c .taps) f))) (convertOutcome (c .taps) f)
-holdsFact c s f o (rank d r) = onAccepted (λ x. eqb (x .rank) r) (rankOutcome graded s (c .taps) d 8192 512)
-holdsFact c s f o (ranks d x y z) = onAccepted (λ j. eqb (setRank j d) x && eqb (partRanks j d .one) y && eqb (partRanks j d .zero) z) o
-holdsFact c s f o (setRanks rs) = onAccepted (λ j. sameList (map (setRank j) (below (c .taps + 1))) rs) o
-holdsFact c s f o (mark m) = onAccepted (λ j. sameOption m (j .mark)) o
-holdsFact c s f o (degree k) = onAccepted (λ j. sameOption k (j .degree)) o
-holdsFact c s f o (side i) = onAccepted (λ j. sameOption i (j .side)) o
-holdsFact c s f o (sides x y) = onAccepted (λ j. sameOption x (j .degrees .one) && sameOption y (j .degrees .zero)) o
-holdsFact c s f o (witness i us) = onAccepted (λ j. sameList (select (member (ofSide i (j .witnesses))) graded) us) o
-holdsFact c s f o (kept ps) = onAccepted (λ j. sameList (points (j .kept)) ps) o
-holdsFact c s f o (printed file ls) = sameList (encode (record { n = c .taps; set = c .set; table = c .table })) file && sameList (sheet file) (textOf ls)
+-- each member of a list passes a test
+unfoldable pub all : {A : Type 0} → (A → Bool) → List A → Bool
+all t [] = true
+all t (x ∷ xs) = t x && all t xs
 
--- each fact of a list is so
-unfoldable pub holdFacts : Case → List ℕ → List ℕ → Outcome Judgement → List Fact → Bool
-holdFacts c s f o [] = true
-holdFacts c s f o (x ∷ xs) = holdsFact c s f o x && holdFacts c s f o xs
+-- whether a fact is so of a judgement of n taps
+unfoldable pub judgedSo : ℕ → Judgement → JudgeFact → Bool
+judgedSo n j (ranks d x y z) = eqb (setRank j d) x && eqb (partRanks j d .one) y && eqb (partRanks j d .zero) z
+judgedSo n j (setRanks rs) = sameList (map (setRank j) (below (n + 1))) rs
+judgedSo n j (mark m) = sameOption m (j .mark)
+judgedSo n j (degree k) = sameOption k (j .degree)
+judgedSo n j (side i) = sameOption i (j .side)
+judgedSo n j (sides x y) = sameOption x (j .degrees .one) && sameOption y (j .degrees .zero)
+judgedSo n j (witness i us) = sameList (select (member (ofSide i (j .witnesses))) graded) us
+judgedSo n j (kept ps) = sameList (j .kept) (mask (lists ps))
+
+-- whether a fact is so of a case
+unfoldable pub holdsFact : Case → Fact → Bool
+holdsFact c (coefficients us) =
+    let f : List ℕ = mask (lists (c .table)) in
+    onAccepted (λ x. sameList (exponents (convertLeaves (c .taps) f)) us) (convertOutcome (c .taps) f)
+holdsFact c (noDegree k) =
+    let f : List ℕ = mask (lists (c .table)) in
+    onAccepted (λ x. isRefused k (degreeOutcome (c .taps) (convertLeaves (c .taps) f))) (convertOutcome (c .taps) f)
+holdsFact c (rank d r) = onAccepted (λ x. eqb (x .rank) r) (rankOutcome graded (mask (lists (c .set))) (c .taps) d 8192 512)
+holdsFact c (judgement fs) =
+    onAccepted (λ j. all (judgedSo (c .taps) j) fs) (judgeOutcome graded (mask (lists (c .set))) (mask (lists (c .table))) (c .taps) 8192 512 512 512)
+holdsFact c (printed file ls) = sameList (encode (record { n = c .taps; set = c .set; table = c .table })) file && sameList (sheet file) (textOf ls)
 
 -- each fact of a case is so
 unfoldable pub holds : Case → Bool
-holds c =
-    let s : List ℕ = mask (lists (c .set)) in
-    let f : List ℕ = mask (lists (c .table)) in
-    holdFacts c s f (judgeOutcome graded s f (c .taps) 8192 512 512 512) (c .facts)
-
--- each case of a list is so
-unfoldable pub holdAll : List Case → Bool
-holdAll [] = true
-holdAll (c ∷ cs) = holds c && holdAll cs
+holds c = all (holdsFact c) (c .facts)
 
 -- cases 1 to 13
 unfoldable pub cases : List Case
@@ -166,14 +173,14 @@ cases =
       taps = 3;
       set = 0 ∷ 1 ∷ 2 ∷ 3 ∷ 4 ∷ 5 ∷ 6 ∷ 7 ∷ [];
       table = 3 ∷ 5 ∷ 6 ∷ 7 ∷ [];
-      facts = ranks 1 4 4 4 ∷ mark (some 2) ∷ degree (some 2) ∷ side (some 1) ∷ [];
+      facts = judgement (ranks 1 4 4 4 ∷ mark (some 2) ∷ degree (some 2) ∷ side (some 1) ∷ kept (0 ∷ 1 ∷ 2 ∷ 3 ∷ 4 ∷ 5 ∷ 6 ∷ []) ∷ []) ∷ [];
     }
     -- case 7
     ∷ record {
       taps = 4;
       set = 0 ∷ 3 ∷ 5 ∷ 6 ∷ 9 ∷ 10 ∷ 12 ∷ 15 ∷ [];
       table = 6 ∷ 10 ∷ 12 ∷ 15 ∷ [];
-      facts = ranks 1 4 4 4 ∷ mark (some 2) ∷ degree (some 2) ∷ [];
+      facts = judgement (ranks 1 4 4 4 ∷ mark (some 2) ∷ degree (some 2) ∷ []) ∷ [];
     }
     -- case 8
     ∷ record {
@@ -181,9 +188,7 @@ cases =
       set = 0 ∷ [];
       table = [];
       facts =
-          degree (some 0)
-          ∷ side (some 1)
-          ∷ witness 1 (0 ∷ [])
+          judgement (degree (some 0) ∷ side (some 1) ∷ witness 1 (0 ∷ []) ∷ [])
           ∷ printed
           (1 ∷ 1 ∷ 0 ∷ 0 ∷ [])
           ("n 1 points 1 mark 0" ∷ "0 1 0 1" ∷ "1 1 0 1" ∷ "degree 0 side 1 witness 0" ∷ "sides 0 none" ∷ "additions 0" ∷ [])
@@ -195,24 +200,26 @@ cases =
       set = 0 ∷ [];
       table = 0 ∷ [];
       facts =
-          degree (some 0)
-          ∷ side (some 0)
-          ∷ witness 0 (0 ∷ [])
+          judgement (degree (some 0) ∷ side (some 0) ∷ witness 0 (0 ∷ []) ∷ [])
           ∷ printed
           (1 ∷ 1 ∷ 0 ∷ 1 ∷ 0 ∷ [])
           ("n 1 points 1 mark 0" ∷ "0 1 1 0" ∷ "1 1 1 0" ∷ "degree 0 side 0 witness 0" ∷ "sides none 0" ∷ "additions 0" ∷ [])
           ∷ [];
     }
     -- case 10
-    ∷ record { taps = 2; set = 1 ∷ 2 ∷ []; table = 1 ∷ []; facts = setRanks (1 ∷ 2 ∷ 2 ∷ []) ∷ mark (some 1) ∷ degree (some 1) ∷ side (some 1) ∷ witness 1 (0 ∷ 1 ∷ []) ∷ [] }
+    ∷ record {
+      taps = 2;
+      set = 1 ∷ 2 ∷ [];
+      table = 1 ∷ [];
+      facts = judgement (setRanks (1 ∷ 2 ∷ 2 ∷ []) ∷ mark (some 1) ∷ degree (some 1) ∷ side (some 1) ∷ witness 1 (0 ∷ 1 ∷ []) ∷ kept (1 ∷ 2 ∷ []) ∷ []) ∷ [];
+    }
     -- case 11: weight 2 in four taps
     ∷ record {
       taps = 4;
       set = 3 ∷ 5 ∷ 6 ∷ 9 ∷ 10 ∷ 12 ∷ [];
       table = 3 ∷ 5 ∷ 6 ∷ [];
       facts =
-          setRanks (1 ∷ 4 ∷ 6 ∷ 6 ∷ 6 ∷ [])
-          ∷ mark (some 1)
+          judgement (setRanks (1 ∷ 4 ∷ 6 ∷ 6 ∷ 6 ∷ []) ∷ mark (some 1) ∷ kept (3 ∷ 5 ∷ 6 ∷ 9 ∷ []) ∷ [])
           ∷ printed
           (4 ∷ 6 ∷ 3 ∷ 2 ∷ 1 ∷ 3 ∷ 1 ∷ 2 ∷ 3 ∷ 3 ∷ 2 ∷ 1 ∷ [])
           (
@@ -241,15 +248,7 @@ cases =
       set = [];
       table = [];
       facts =
-          ranks 0 0 0 0
-          ∷ ranks 1 0 0 0
-          ∷ mark none
-          ∷ degree none
-          ∷ side none
-          ∷ sides none none
-          ∷ witness 1 []
-          ∷ witness 0 []
-          ∷ kept []
+          judgement (ranks 0 0 0 0 ∷ ranks 1 0 0 0 ∷ mark none ∷ degree none ∷ side none ∷ sides none none ∷ witness 1 [] ∷ witness 0 [] ∷ kept [] ∷ [])
           ∷ printed
           (1 ∷ 0 ∷ 0 ∷ [])
           ("n 1 points 0 mark none" ∷ "0 0 0 0" ∷ "1 0 0 0" ∷ "degree none" ∷ "sides none none" ∷ "additions 0" ∷ [])
@@ -261,15 +260,9 @@ cases =
       set = [];
       table = 3 ∷ 5 ∷ 6 ∷ [];
       facts =
-          setRanks (0 ∷ 0 ∷ 0 ∷ 0 ∷ 0 ∷ [])
-          ∷ ranks 4 0 0 0
-          ∷ mark none
-          ∷ degree none
-          ∷ side none
-          ∷ sides none none
-          ∷ witness 1 []
-          ∷ witness 0 []
-          ∷ kept []
+          judgement (
+          setRanks (0 ∷ 0 ∷ 0 ∷ 0 ∷ 0 ∷ []) ∷ ranks 4 0 0 0 ∷ mark none ∷ degree none ∷ side none ∷ sides none none ∷ witness 1 [] ∷ witness 0 [] ∷ kept [] ∷ []
+          )
           ∷ printed
           (4 ∷ 0 ∷ 3 ∷ 3 ∷ 2 ∷ 1 ∷ [])
           (
