@@ -50,7 +50,7 @@ loop-again c =
     let from = r .row-of .result * 8 in
     let i = l .loop .inv in
     let room : to + k < length t = omega (arith, s .pre .1, i .0) in (
-      length-set t (to + k) (getD ws (from + k) 0) ∙ i .0,
+      length-set t (to + k) _ ∙ i .0,
       omega arith,
       next-copied ws (s .args .certificate .now) t to from k room (i .2),
       next-others ws (s .args .certificate .now) t to from k room (getD ws (from + k) 0) (i .3),
