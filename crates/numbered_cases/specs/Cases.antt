@@ -6,6 +6,7 @@
 --   sameOption x y  whether two options are the same: both none, or the same number
 --   onAccepted t o  whether an outcome accepts, with values that pass the test t
 --   isRefused k o   whether an outcome is a refusal by the number k
+--   marksOnly us b  whether the buffer b has 512 bytes, 1 at the numbers us and 0 elsewhere
 --   textOf ls       the text of lines
 --   all t xs        whether each member of a list passes the test t
 --   judgedSo n j    whether a fact is so of the judgement j of n taps
@@ -18,12 +19,12 @@ use mathlib.Core.Option.{Option, none, some}
 use Prim.Native.Nat.{ℕ, _+_}
 use Prim.Native.String.{String}
 use lib.Dec.{eqb}
-use Rattle.cube.specs.NumberLists.{below, select, lists}
-use Rattle.cube.specs.Mask.{member, mask}
+use Rattle.cube.specs.NumberLists.{below, lists}
+use Rattle.cube.specs.Mask.{mask}
 use Rattle.order.specs.BuiltIn.{graded}
 use Rattle.refusal.specs.Outcome.{Outcome, refused, accepted}
 use Rattle.polynomial.specs.Convert.{convertOutcome, convertLeaves}
-use Rattle.polynomial.specs.Degree.{exponents, degreeOutcome}
+use Rattle.polynomial.specs.Degree.{degreeOutcome}
 use Rattle.matrix.specs.Rank.{rankOutcome}
 use Rattle.filter_file.specs.File.{encode}
 use Rattle.filter.specs.Sides.{ofSide}
@@ -46,14 +47,14 @@ pub data JudgeFact : Type 0 where
   side : Option ℕ → JudgeFact
   -- and these as the own degrees of side 1 and side 0
   sides : Option ℕ → Option ℕ → JudgeFact
-  -- the witness of a side has these exponents, in graded order
+  -- the witness buffer of a side is 1 at these exponents, and 0 elsewhere
   witness : ℕ → List ℕ → JudgeFact
   -- the mask of kept points is 1 at these points of the set, and 0 elsewhere
   kept : List ℕ → JudgeFact
 
 -- an answer that is expected
 pub data Fact : Type 0 where
-  -- Convert accepts the table, and turns it into these coefficients, named by their exponents
+  -- Convert accepts the table, and leaves coefficients that are 1 at these exponents, and 0 elsewhere
   coefficients : List ℕ → Fact
   -- Convert accepts the table, and Degree refuses its coefficients by this number
   noDegree : ℕ → Fact
@@ -95,6 +96,10 @@ unfoldable pub isRefused : {A : Type 0} → ℕ → Outcome A → Bool
 isRefused k (refused j) = eqb j k
 isRefused k (accepted a) = false
 
+-- 1 at these numbers, and 0 elsewhere
+abbrev pub marksOnly : List ℕ → List ℕ → Bool
+marksOnly us b = sameList b (mask (lists us))
+
 -- the bytes of lines, each ended
 unfoldable pub textOf : List String → Text
 textOf [] = []
@@ -113,14 +118,14 @@ judgedSo n j (mark m) = sameOption m (j .mark)
 judgedSo n j (degree k) = sameOption k (j .degree)
 judgedSo n j (side i) = sameOption i (j .side)
 judgedSo n j (sides x y) = sameOption x (j .degrees .one) && sameOption y (j .degrees .zero)
-judgedSo n j (witness i us) = sameList (select (member (ofSide i (j .witnesses))) graded) us
-judgedSo n j (kept ps) = sameList (j .kept) (mask (lists ps))
+judgedSo n j (witness i us) = marksOnly us (ofSide i (j .witnesses))
+judgedSo n j (kept ps) = marksOnly ps (j .kept)
 
 -- whether a fact is so of a case
 unfoldable pub holdsFact : Case → Fact → Bool
 holdsFact c (coefficients us) =
     let f : List ℕ = mask (lists (c .table)) in
-    onAccepted (λ x. sameList (exponents (convertLeaves (c .taps) f)) us) (convertOutcome (c .taps) f)
+    onAccepted (λ x. marksOnly us (convertLeaves (c .taps) f)) (convertOutcome (c .taps) f)
 holdsFact c (noDegree k) =
     let f : List ℕ = mask (lists (c .table)) in
     onAccepted (λ x. isRefused k (degreeOutcome (c .taps) (convertLeaves (c .taps) f))) (convertOutcome (c .taps) f)
