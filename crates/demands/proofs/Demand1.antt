@@ -9,8 +9,8 @@ use native.Mathlib.Omega.{arith}
 use lib.Dec.{eqb}
 use lib.ListN.{length, drop}
 use borrow.Author.Tests.{eqb-true, eq-eqb, ne-eqb}
-use Rattle.refusal.specs.Outcome.{Outcome, refused, accepted, left, leftBy}
-use Rattle.refusal.proofs.Outcomes.{not-both, number-not-6}
+use Rattle.refusal.specs.Outcome.{Outcome, refused, accepted, mapped, left, leftBy}
+use Rattle.refusal.proofs.Outcomes.{not-both, number-not-6, mapped-refused}
 use Rattle.cube.specs.NumberLists.{lists}
 use Rattle.cube.specs.Cube.{size}
 use Rattle.cube.specs.Mask.{mask}
@@ -81,6 +81,7 @@ demand1 = record {
   table-points = λ s c h e. let (_, v) = contents-decoded s h e in points-listed (size (c .n)) (c .table) (size-small v) (v .table);
   read-judged = λ s c h e. let (_, v) = contents-decoded s h e in
       (judged graded (c .n) (mask (lists (c .set))) (mask (lists (c .table))), judge-accepts graded _ _ _ (valid-filter v));
+  read-answers = λ o r s s′ f f′ k h. (λ e. mapped-refused (λ (c : Contents). c .n) o (sym (h .answer) ∙ e), λ e. h .answer ∙ ap (mapped (λ (c : Contents). c .n)) e);
   read-keeps = λ o r s s′ f f′ k h e. (h .set ∙ ap (λ x. leftBy x s (λ c. mask (lists (c .set)))) e, h .table ∙ ap (λ x. leftBy x f (λ c. mask (lists (c .table)))) e);
   write-keeps = λ o r out out′ k h e. h .output ∙ ap (λ x. leftBy x out (λ file. file ++ drop (length file) out)) e;
   convert-keeps = λ n b b′ r k h e. h .leaves ∙ ap (λ x. left x b (converted n b)) e;

@@ -1,12 +1,15 @@
 -- The sentences on ranks and judgements hold.
 --   judgement-words   each of them
-use mathlib.Core.Path.{ap, _∙_}
+use mathlib.Core.Path.{refl, sym, ap, _∙_}
 use lib.ListN.{length, replicate}
 use Rattle.refusal.specs.Outcome.{left, leftBy}
 use Rattle.packed.specs.Packed.{zeros}
 use Rattle.immunity.specs.Ranks.{noRanks}
+use Rattle.order.specs.BuiltIn.{graded}
+use Rattle.judge.proofs.Passed.{found-accepts}
 use Rattle.certify.specs.Certify.{clearedUnless}
 use Rattle.demands.specs.JudgementWords.{JudgementWords}
+use Rattle.demands.proofs.Demand3.{demand3}
 use Rattle.demands.proofs.Refusals.{judge-refuses, certify-refuses}
 use Rattle.demands.proofs.RankWords.{rank-words}
 use Rattle.demands.proofs.JudgeWords.{judge-words}
@@ -23,6 +26,10 @@ judgement-words = record {
   certify-refuses = certify-refuses;
   certify = certify-words;
   hand-over = hand-over-words;
+  report-says = λ n s f ws ws′ w w′ m m′ a r h e. let y = found-accepts graded n s f ws ws′ w w′ m m′ a h _ _ e refl in (demand3 .every n s f _ y, judge-words n s f _ y);
+  rank-answers = λ o ws ws′ m m′ a k h. (λ e. sym (h .answers) ∙ e, λ e. h .answers ∙ e);
+  judge-answers = λ o ws ws′ w w′ m m′ a k h. (λ e. sym (h .answers) ∙ e, λ e. h .answers ∙ e);
+  certify-answers = λ o ws ws′ c c′ a k h. (λ e. sym (h .answers) ∙ e, λ e. h .answers ∙ e);
   rank-zeros = λ o ws ws′ m m′ a r h e. h .leaves ∙ ap (λ x. left x ws (zeros (length ws))) e;
   judge-zeros = λ o ws ws′ w w′ m m′ a j h e. h .leaves ∙ ap (λ x. left x ws (zeros (length ws))) e;
   certify-zeros = λ o ws ws′ c c′ a x h e. h .leaves ∙ ap (λ y. clearedUnless y ws) e;

@@ -1,6 +1,6 @@
 -- The sentences on the sheet hold.
 --   sheet-words   each of them
-use mathlib.Core.Path.{_≡_, ap, _∙_}
+use mathlib.Core.Path.{_≡_, refl, ap, _∙_}
 use mathlib.Core.List.{List, _++_}
 use Prim.Native.Nat.{ℕ}
 use Rattle.cube.specs.NumberLists.{lists}
@@ -49,4 +49,12 @@ sheet-refused file k e = ap sheetOf e
 
 -- each of them
 pub sheet-words : SheetWords
-sheet-words = record { sheet-judged = sheet-judged; sums-certified = sums-certified; sheet-refused = sheet-refused }
+sheet-words = record {
+  sheet-judged = sheet-judged;
+  sums-certified = sums-certified;
+  ranks-printed = λ n rs. refl;
+  sums-printed = λ n s f. (refl, refl, λ d. refl);
+  sum-printed = λ side c ps. refl;
+  additions-printed = λ m. refl;
+  sheet-refused = sheet-refused;
+}

@@ -32,7 +32,7 @@ use Rattle.filter_file.specs.declared.write.WriteAnswer.{WriteAnswer}
 use Rattle.filter_file.specs.File.{Contents, encode, Valid}
 use Rattle.varint.specs.Varint.{Bytes}
 use Rattle.filter_file.specs.Fault.{FileFault}
-use Rattle.filter_file.specs.Read.{readOutcome, ReadContract, reading}
+use Rattle.filter_file.specs.Read.{readOutcome, outcomeOf as readOutcomeOf, ReadContract, reading}
 use Rattle.filter_file.specs.Write.{WriteContract}
 use Rattle.judge.specs.declared.JudgeAnswer.{JudgeAnswer}
 use Rattle.certify.specs.declared.CertifyAnswer.{CertifyAnswer}
@@ -69,6 +69,8 @@ pub record Demand1 : Type 0 where
   pub first-number : (file : List ℕ) (k : ℕ) → Bytes file → (reading file ≡ refused k) ↔ FileFault file k
   -- before all of these, buffers that are not both 512 long are refused by 1
   pub wrong-lengths : (k l : ℕ) (file : List ℕ) → (readOutcome k l file ≡ refused 1) ↔ ((k ≡ 512) × (l ≡ 512) → ⊥)
+  -- the answer of Read is a refusal exactly when the outcome is, by the same number
+  pub read-answers : (o : Outcome Contents) (r : ReadAnswer) (s s′ f f′ : List ℕ) (k : ℕ) → ReadContract o r s s′ f f′ → (readOutcomeOf r ≡ refused k) ↔ (o ≡ refused k)
   -- the points of each buffer are those of its list
   pub set-points : (file : List ℕ) (c : Contents) → Bytes file → reading file ≡ accepted c → points (mask (lists (c .set))) ≡ c .set
   pub table-points : (file : List ℕ) (c : Contents) → Bytes file → reading file ≡ accepted c → points (mask (lists (c .table))) ≡ c .table

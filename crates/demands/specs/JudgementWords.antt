@@ -10,16 +10,16 @@
 --   JudgeWords n s f j             those on what Judge answers and leaves
 --   CertifyWords n s f side d c    those on what Certify writes for a side at degree d
 --   HandOverWords n side w handed  those on what Hand over hands back of the buffers w for a side
---   SheetWords                     those on what the sheet is made of, and on a refused file
+--   SheetWords                     those on what the sheet is made of, on its lines, and on a refused file
 --   JudgementWords                 all of them
 use mathlib.Core.Path.{_≡_}
 use mathlib.Core.Bool.{true}
 use mathlib.Core.Logic.{_↔_}
 use mathlib.Core.List.{List, [], _∷_, _++_, List·Memᴰ}
 use mathlib.Core.Option.{none, some}
-use Prim.Native.Nat.{ℕ, _+_, _^_, _/_, _%_, _≤_, _<_}
+use Prim.Native.Nat.{ℕ, suc, _+_, _^_, _/_, _%_, _≤_, _<_}
 use lib.ListN.{length, getD, take, replicate}
-use Rattle.cube.specs.NumberLists.{below, lists}
+use Rattle.cube.specs.NumberLists.{below, select, lists}
 use Rattle.cube.specs.Cube.{Taps, size, within, weight}
 use Rattle.cube.specs.Mask.{WellFormed, member, points, mask}
 use Rattle.order.specs.Order.{columns}
@@ -36,25 +36,28 @@ use Rattle.packed.specs.Packed.{zeros}
 use Rattle.point_rows.specs.Rows.{row, rows}
 use Rattle.matrix.specs.Matrix.{eliminated}
 use Rattle.matrix.specs.declared.rank.RankAnswer.{RankAnswer}
-use Rattle.matrix.specs.Rank.{Ranking, rankOutcome, RankContract}
+use Rattle.matrix.specs.Rank.{Ranking, rankOutcome, outcomeOf as rankOutcomeOf, RankContract}
 use Rattle.filter.specs.Sides.{Sides, ofSide}
 use Rattle.filter.specs.Part.{part}
 use Rattle.filter.specs.Outside.{Outside, outside}
 use Rattle.filter_file.specs.File.{Contents}
 use Rattle.filter_file.specs.Read.{reading}
+use Rattle.immunity.specs.declared.Ranks.{Ranks}
 use Rattle.immunity.specs.Ranks.{noRanks}
 use Rattle.immunity.specs.Witness.{IsWitness}
 use Rattle.immunity.specs.Judgement.{summed, Judgement, setRank, partRanks, GivenEqual}
 use Rattle.immunity.specs.Certificate.{bitOf, IsCertificate}
 use Rattle.judge.specs.declared.JudgeAnswer.{JudgeAnswer}
-use Rattle.judge.specs.Judge.{judgeOutcome, JudgeContract, JudgeAccepts}
+use Rattle.judge.specs.declared.Report.{Report}
+use Rattle.judge.specs.declared.Finding.the-variants.{Judged}
+use Rattle.judge.specs.Judge.{judgeOutcome, judgementOf, outcomeOf as judgeOutcomeOf, JudgeContract, JudgeAccepts}
 use Rattle.certify.specs.declared.CertifyAnswer.{CertifyAnswer}
-use Rattle.certify.specs.Certify.{certifyOutcome, CertifyContract, CertifyAccepts}
+use Rattle.certify.specs.Certify.{certifyOutcome, outcomeOf as certifyOutcomeOf, CertifyContract, CertifyAccepts}
 use Rattle.hand_over.specs.HandOver.{HandOverContract}
-use Rattle.text.specs.Text.{newline, labelled}
-use Rattle.sheet_lines.specs.Lines.{sumLines}
-use Rattle.sheet_text.specs.Sheet.{sideSums, judgementSheet, sheet}
-use Rattle.demands.specs.Demands.{RankAccepts}
+use Rattle.text.specs.Text.{ascii, newline, decimal, field, labelled, joined, fields}
+use Rattle.sheet_lines.specs.Lines.{rankLines, sumLines, additionsLine}
+use Rattle.sheet_text.specs.Sheet.{sideSums, sums, judgementSheet, sheet}
+use Rattle.demands.specs.Demands.{RankAccepts, Judgement3}
 
 -- one number is the rank of both
 abbrev pub SameRank : ℕ → ℕ → List ℕ → List ℕ → Type 0
@@ -193,7 +196,7 @@ pub record HandOverWords (n side : ℕ) (w : Sides (List ℕ)) (handed : List �
   -- if n, the side or a length is wrong, the part is empty; that is its only refusal
   pub empty : (Taps n × (side ≤ 1) × (length (w .one) ≡ 512) × (length (w .zero) ≡ 512) → ⊥) → handed ≡ []
 
--- on what the sheet is made of, and on a refused file
+-- on what the sheet is made of, on its lines (the first one: `SetMark`; the degree and the sides: `BothSides`), and on a refused file
 pub record SheetWords : Type 0 where
   -- of what Judge answers and leaves for the file that is read,
   pub sheet-judged : (file : List ℕ) (c : Contents) (j : Judgement) → reading file ≡ accepted c
@@ -202,6 +205,17 @@ pub record SheetWords : Type 0 where
   -- and of what Certify writes
   pub sums-certified : (n : ℕ) (s f : List ℕ) (side d : ℕ) (c : List ℕ) → CertifyAccepts graded n s f side d c
       → sideSums n s f d side ≡ sumLines side c (outside (points s) (part side s f))
+  -- a rank line has d and the ranks of S, part 1 and part 0, for each d from 0 to n
+  pub ranks-printed : (n : ℕ) (rs : List Ranks)
+      → rankLines n rs ≡ joined (λ d. let r : Ranks = getD rs d noRanks in decimal d ++ field (r .set) ++ field (r .one) ++ field (r .zero) ++ newline) (below (n + 1))
+  -- the sums are those of degree k - 1, side 1 then 0; none if k is 0, and none without a degree
+  pub sums-printed : (n : ℕ) (s f : List ℕ) → (sums n s f none ≡ []) × (sums n s f (some 0) ≡ [])
+      × ((d : ℕ) → sums n s f (some (suc d)) ≡ sideSums n s f d 1 ++ sideSums n s f d 0)
+  -- a line of them has the side, the point, and the points that the certificate names for it, rising
+  pub sum-printed : (side : ℕ) (c ps : List ℕ)
+      → sumLines side c ps ≡ joined (λ a. labelled "side" side ++ labelled " point" a ++ ascii " sum" ++ fields (select (bitOf c a) (below 512)) ++ newline) ps
+  -- the last line has Judge's additions
+  pub additions-printed : (m : ℕ) → additionsLine m ≡ labelled "additions" m ++ newline
   -- the sheet of a file that is refused is one line, `refused` and the number, whichever it is
   pub sheet-refused : (file : List ℕ) (k : ℕ) → reading file ≡ refused k → sheet file ≡ labelled "refused" k ++ newline
 
@@ -220,6 +234,17 @@ pub record JudgementWords : Type 0 where
   pub certify : (n : ℕ) (s f : List ℕ) (side d : ℕ) (c : List ℕ) → CertifyAccepts graded n s f side d c → CertifyWords n s f side d c
   -- what Hand over hands back is as its sentences say
   pub hand-over : (n side : ℕ) (w : Sides (List ℕ)) (handed : List ℕ) → HandOverContract n side w handed → HandOverWords n side w handed
+  -- every report of Judge, lent buffers of any lengths, says what demand 3 and these sentences say of a judgement, with the ranks that are answered beside it and what is left in the buffers
+  pub report-says : (n : ℕ) (s f ws ws′ : List ℕ) (w w′ : Sides (List ℕ)) (m m′ : List ℕ) (a : JudgeAnswer) (r : Report)
+      → JudgeContract (judgeOutcome graded s f n (length ws) (length (w .one)) (length (w .zero)) (length m)) ws ws′ w w′ m m′ a → a .finding ≡ Judged r
+      → Judgement3 n s f (judgementOf r (a .ranks) w′ m′) × JudgeWords n s f (judgementOf r (a .ranks) w′ m′)
+  -- an answer is a refusal exactly when the outcome is, by the same number: of Rank,
+  pub rank-answers : (o : Outcome Ranking) (ws ws′ m m′ : List ℕ) (a : RankAnswer) (k : ℕ) → RankContract o ws ws′ m m′ a → (rankOutcomeOf a m′ ≡ refused k) ↔ (o ≡ refused k)
+  -- of Judge,
+  pub judge-answers : (o : Outcome Judgement) (ws ws′ : List ℕ) (w w′ : Sides (List ℕ)) (m m′ : List ℕ) (a : JudgeAnswer) (k : ℕ)
+      → JudgeContract o ws ws′ w w′ m m′ a → (judgeOutcomeOf a w′ m′ ≡ refused k) ↔ (o ≡ refused k)
+  -- and of Certify
+  pub certify-answers : (o : Outcome (List ℕ)) (ws ws′ c c′ : List ℕ) (a : CertifyAnswer) (k : ℕ) → CertifyContract o ws ws′ c c′ a → (certifyOutcomeOf a c′ ≡ refused k) ↔ (o ≡ refused k)
   -- after acceptance the workspace is all zero: of Rank,
   pub rank-zeros : (o : Outcome Ranking) (ws ws′ m m′ : List ℕ) (a : RankAnswer) (r : Ranking) → RankContract o ws ws′ m m′ a → o ≡ accepted r → ws′ ≡ zeros (length ws)
   -- of Judge,
@@ -231,5 +256,5 @@ pub record JudgementWords : Type 0 where
   -- a refusal of Judge answers its number alone: the ranks beside it are all 0
   pub judge-number-alone : (o : Outcome Judgement) (ws ws′ : List ℕ) (w w′ : Sides (List ℕ)) (m m′ : List ℕ) (a : JudgeAnswer) (k : ℕ)
       → JudgeContract o ws ws′ w w′ m m′ a → o ≡ refused k → a .ranks ≡ replicate 10 noRanks
-  -- on what the sheet is made of, and on a refused file
+  -- on what the sheet is made of, on its lines, and on a refused file
   pub sheet : SheetWords

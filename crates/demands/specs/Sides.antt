@@ -77,7 +77,7 @@ pub record BothSides : Type 0 where
       ≡ labelled "degree" k ++ labelled " side" side ++ ascii " witness" ++ fields (select (member (ofSide side ws)) graded) ++ newline
   pub sides-printed : (x y : ℕ) → (sidesLine (pair (some x) (some y)) ≡ ascii "sides" ++ field x ++ field y ++ newline)
       × (sidesLine (pair (some x) none) ≡ ascii "sides" ++ field x ++ ascii " none" ++ newline) × (sidesLine (pair none (some y)) ≡ ascii "sides" ++ ascii " none" ++ field y ++ newline)
-  -- without a degree and without a side they have `none` alone
+  -- without a degree and a side the first has `none` alone, and where neither side has a degree the second has it twice
   pub none-printed : (ws : Sides (List ℕ)) → (degreeLine none none ws ≡ ascii "degree none" ++ newline) × (sidesLine (pair none none) ≡ ascii "sides none none" ++ newline)
   -- the sheet of a file that is read prints them on the line after the degree line: the whole sheet, line by line
   pub printed : (file : List ℕ) (c : Contents) (j : Judgement) → reading file ≡ accepted c
