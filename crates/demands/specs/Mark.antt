@@ -80,7 +80,7 @@ pub record SetMark : Type 0 where
       → JudgeContract o ws ws′ w w′ m m′ a → o ≡ accepted j
       → ((r : Report) × (a .finding ≡ Judged r) × (some (r .mark) ≡ j .mark) × (some (r .degree) ≡ j .degree))
       ⊎ ((a .finding ≡ NoPoint) × (j .mark ≡ none) × (j .degree ≡ none))
-  -- every report of Judge, lent buffers of any lengths, says so of the mark, with the ranks that are answered beside it;
+  -- in every report of Judge, lent buffers of any lengths, the mark is as the sentences say, by the ranks that are answered beside it;
   pub report-says : (n : ℕ) (s f ws ws′ : List ℕ) (w w′ : Sides (List ℕ)) (m m′ : List ℕ) (a : JudgeAnswer) (r : Report)
       → JudgeContract (judgeOutcome graded s f n (length ws) (length (w .one)) (length (w .zero)) (length m)) ws ws′ w w′ m m′ a → a .finding ≡ Judged r
       → MarkWords n s f (judgementOf r (a .ranks) w′ m′)

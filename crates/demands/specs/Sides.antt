@@ -68,7 +68,7 @@ pub record BothSides : Type 0 where
       → JudgeContract o ws ws′ w w′ m m′ a → o ≡ accepted j
       → ((r : Report) × (a .finding ≡ Judged r) × (degreesOf (r .one) (r .zero) ≡ j .degrees) × (some (r .degree) ≡ j .degree) × (some (r .side) ≡ j .side))
       ⊎ ((a .finding ≡ NoPoint) × (j .degrees ≡ pair none none) × (j .degree ≡ none) × (j .side ≡ none))
-  -- every report of Judge, lent buffers of any lengths, says so of each side's degree, with the ranks that are answered beside it
+  -- in every report of Judge, lent buffers of any lengths, each side's degree is as the sentences say, by the ranks that are answered beside it
   pub report-says : (n : ℕ) (s f ws ws′ : List ℕ) (w w′ : Sides (List ℕ)) (m m′ : List ℕ) (a : JudgeAnswer) (r : Report)
       → JudgeContract (judgeOutcome graded s f n (length ws) (length (w .one)) (length (w .zero)) (length m)) ws ws′ w w′ m m′ a → a .finding ≡ Judged r
       → SidesWords n s f (judgementOf r (a .ranks) w′ m′)
