@@ -19,6 +19,7 @@ use lib.ListN.{length, getD, take, drop}
 use Rattle.cube.specs.NumberLists.{lists}
 use Rattle.cube.specs.Mask.{byte, mask}
 use Rattle.refusal.specs.Outcome.{Outcome, accepted, left, leftBy}
+use Rattle.refusal.specs.Status.{statusOf}
 use Rattle.filter_file.specs.File.{Contents}
 use Rattle.matrix.specs.Rank.{Ranking}
 use Rattle.packed.specs.Packed.{zeros}
@@ -26,7 +27,6 @@ use Rattle.filter.specs.Sides.{Sides}
 use Rattle.immunity.specs.Judgement.{Judgement}
 use Rattle.certify.specs.Certify.{clearedUnless}
 use Rattle.hand_over.specs.HandOver.{handed}
-use Rattle.exports.specs.Status.{statusOf}
 use Rattle.exports.specs.Report.{reportOf}
 
 -- Read: the set s, the table f and the number n at entry and at exit

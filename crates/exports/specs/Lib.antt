@@ -1,4 +1,3 @@
 -- What the exported functions answer.
 pub mod Exported
 pub mod Report
-pub mod Status

@@ -4,6 +4,7 @@
 ghost use mathlib.Core.Path.{_≡_};
 ghost use lib.ListN.{length};
 ghost use Rattle.refusal.specs.Outcome.{leftBy};
+ghost use Rattle.refusal.specs.Status.{statusOf};
 ghost use Rattle.order.specs.BuiltIn.{graded};
 ghost use Rattle.filter.specs.Sides.{pair};
 ghost use Rattle.polynomial.specs.Convert.{convertOutcome, convertLeaves};
@@ -14,7 +15,6 @@ ghost use Rattle.filter_file.specs.Write.{writeOutcome};
 ghost use Rattle.judge.specs.Judge.{judgeOutcome};
 ghost use Rattle.certify.specs.Certify.{certifyOutcome};
 ghost use Rattle.checker.specs.Check.{checkOutcome};
-ghost use Rattle.exports.specs.Status.{statusOf};
 ghost use Rattle.exports.specs.Exported.{ReadStatus, WriteStatus, RankStatus, JudgeStatus, CertifyStatus, CheckStatus, inFront, HandOverStatus};
 use crate::report::REPORT;
 use crate::report::no_point_report;

@@ -1,7 +1,7 @@
 use borrow.Author.Needs.{needs}
 use mathlib.Core.Path.{sym, ap, _∙_}
 use Rattle.certify.specs.Certify.{outcomeOf}
-use Rattle.exports.specs.Status.{statusOf}
+use Rattle.refusal.specs.Status.{statusOf}
 use Rattle.exports.proofs.ekthavrul_certify.Statement.{statement}
 use Rattle.exports.proofs.ekthavrul_certify.Tie as tie
 

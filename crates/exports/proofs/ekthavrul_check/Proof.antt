@@ -1,9 +1,9 @@
 use borrow.Author.Needs.{needs}
 use mathlib.Core.Path.{sym, ap, _∙_}
 use Rattle.refusal.specs.Outcome.{leftBy}
+use Rattle.refusal.specs.Status.{statusOf}
 use Rattle.cube.specs.Mask.{byte}
 use Rattle.checker.specs.Check.{outcomeOf}
-use Rattle.exports.specs.Status.{statusOf}
 use Rattle.exports.proofs.ekthavrul_check.Statement.{statement}
 use Rattle.exports.proofs.ekthavrul_check.Tie as tie
 

@@ -1,7 +1,7 @@
 use mathlib.Core.Path.{sym, ap, _∙_}
 use borrow.Author.Needs.{needs}
 use Rattle.polynomial.specs.Convert.{outcomeOf}
-use Rattle.exports.specs.Status.{statusOf}
+use Rattle.refusal.specs.Status.{statusOf}
 use Rattle.exports.proofs.ekthavrul_convert.Statement.{statement}
 use Rattle.exports.proofs.ekthavrul_convert.Tie as tie
 

@@ -1,8 +1,8 @@
 use mathlib.Core.Path.{sym, ap, _∙_}
 use borrow.Author.Needs.{needs}
 use Rattle.refusal.specs.Outcome.{leftBy}
+use Rattle.refusal.specs.Status.{statusOf}
 use Rattle.polynomial.specs.Degree.{outcomeOf}
-use Rattle.exports.specs.Status.{statusOf}
 use Rattle.exports.proofs.ekthavrul_degree.Statement.{statement}
 use Rattle.exports.proofs.ekthavrul_degree.Tie as tie
 

@@ -7,13 +7,13 @@ use Prim.Native.Nat.{ℕ, _+_, _<_}
 use native.Mathlib.Omega.{arith}
 use lib.ListN.{length, getD}
 use Rattle.refusal.specs.Outcome.{Outcome, accepted, leftBy}
+use Rattle.refusal.specs.Status.{statusOf}
 use Rattle.filter.specs.Sides.{Sides}
 use Rattle.immunity.specs.Judgement.{Judgement}
 use Rattle.judge.specs.declared.JudgeAnswer.{JudgeAnswer}
 use Rattle.judge.specs.declared.Finding.{Finding}
 use Rattle.judge.specs.Judge.{found, JudgeContract}
 use Rattle.judge.proofs.Passed.{Fits, accepted-fits}
-use Rattle.exports.specs.Status.{statusOf}
 use Rattle.exports.specs.Report.{degreeNumber, sideNumber, reportOf}
 use Rattle.exports.specs.Exported.{StandsFor, JudgeStatus}
 use Rattle.exports.proofs.Flat.{behind-ranks, number-most, number-stands}

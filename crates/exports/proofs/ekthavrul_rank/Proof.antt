@@ -1,8 +1,8 @@
 use mathlib.Core.Path.{sym, ap, _∙_}
 use borrow.Author.Needs.{needs}
 use Rattle.refusal.specs.Outcome.{leftBy}
+use Rattle.refusal.specs.Status.{statusOf}
 use Rattle.matrix.specs.Rank.{outcomeOf}
-use Rattle.exports.specs.Status.{statusOf}
 use Rattle.exports.proofs.ekthavrul_rank.Statement.{statement}
 use Rattle.exports.proofs.ekthavrul_rank.Tie as tie
 

@@ -2,9 +2,9 @@ use mathlib.Core.Path.{sym, ap, _∙_}
 use borrow.Author.Needs.{needs}
 use lib.ListN.{length}
 use Rattle.refusal.specs.Outcome.{leftBy}
+use Rattle.refusal.specs.Status.{statusOf}
 use Rattle.refusal.proofs.Outcomes.{mapped-refused, mapped-accepted}
 use Rattle.filter_file.specs.Read.{readOutcome, outcomeOf}
-use Rattle.exports.specs.Status.{statusOf}
 use Rattle.exports.proofs.ekthavrul_read.Statement.{statement}
 use Rattle.exports.proofs.ekthavrul_read.Tie as tie
 
