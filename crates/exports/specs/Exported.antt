@@ -3,17 +3,14 @@
 --   ReadStatus o ..      the status, both buffers and the number of taps after Read
 --   WriteStatus o ..     the status, the output and the length of the file after Write
 --   RankStatus o ..      the status, the workspace, the mask of kept points, the rank and the additions after Rank
---   StandsFor x i m      the number m stands for x: it is i exactly where x is none, and else what x is
 --   JudgeStatus o ..     the status, the workspace, the witness buffers, the mask of kept points and the report after Judge
 --   CertifyStatus o ..   the status, the workspace and the certificate after Certify
 --   CheckStatus o ..     the status and the number for yes or no after Check
 --   inFront part copy    a buffer with a part at its front, as many bytes as it has room for
 --   HandOverStatus ..    the length of the part that Hand over hands back, and its copy
 use mathlib.Core.Path.{_≡_}
-use mathlib.Core.Logic.{_↔_}
 use mathlib.Core.Bool.{Bool}
 use mathlib.Core.List.{List, _++_}
-use mathlib.Core.Option.{Option, none, some}
 use Prim.Native.Nat.{ℕ, min}
 use lib.ListN.{length, getD, take, drop}
 use Rattle.cube.specs.NumberLists.{lists}
@@ -27,7 +24,7 @@ use Rattle.filter.specs.Sides.{Sides}
 use Rattle.immunity.specs.Judgement.{Judgement}
 use Rattle.certify.specs.Certify.{clearedUnless}
 use Rattle.hand_over.specs.HandOver.{handed}
-use Rattle.exports.specs.Report.{reportOf}
+use Rattle.judge_report.specs.Report.{reportOf, StandsFor}
 
 -- Read: the set s, the table f and the number n at entry and at exit
 pub record ReadStatus (o : Outcome Contents) (s s′ f f′ : List ℕ) (n n′ r : ℕ) : Type 0 where
@@ -49,10 +46,6 @@ pub record RankStatus (o : Outcome Ranking) (ws ws′ m m′ : List ℕ) (k k′
   pub kept : m′ ≡ leftBy o m (λ x. x .kept)
   pub rank : k′ ≡ leftBy o k (λ x. x .rank)
   pub additions : a′ ≡ leftBy o a (λ x. x .additions)
-
--- the number m is i exactly where there is none, and else the one that there is
-abbrev pub StandsFor : Option ℕ → ℕ → ℕ → Type 0
-StandsFor x i m = ((m ≡ i) ↔ (x ≡ none)) × ((k : ℕ) → x ≡ some k → m ≡ k)
 
 -- Judge: workspace, witness buffers, mask of kept points and report at entry and at exit; the reported degree stands at 30, side 1's own
 -- degree at 33, side 0's at 34, the mark at 35, each 10 exactly where there is none; the side stands at 31, 2 exactly where there is none

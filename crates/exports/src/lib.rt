@@ -16,20 +16,18 @@ ghost use Rattle.judge.specs.Judge.{judgeOutcome};
 ghost use Rattle.certify.specs.Certify.{certifyOutcome};
 ghost use Rattle.checker.specs.Check.{checkOutcome};
 ghost use Rattle.exports.specs.Exported.{ReadStatus, WriteStatus, RankStatus, JudgeStatus, CertifyStatus, CheckStatus, inFront, HandOverStatus};
-use crate::report::REPORT;
-use crate::report::no_point_report;
-use crate::report::report_of;
 use buffer::append;
 use certify::CertifyAnswer;
 use checker::CheckAnswer;
 use filter_file::read::ReadAnswer;
 use filter_file::write::WriteAnswer;
 use judge::Finding;
+use judge_report::REPORT;
+use judge_report::no_point_report;
+use judge_report::report_of;
 use matrix::rank::RankAnswer;
 use polynomial::convert::ConvertAnswer;
 use polynomial::degree::DegreeAnswer;
-
-mod report; // report.rt: the report of Judge
 
 // Convert.
 #[no_mangle]

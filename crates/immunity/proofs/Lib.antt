@@ -6,6 +6,7 @@ pub mod CertificateNumbers
 pub mod Equal
 pub mod First
 pub mod FirstUpTo
+pub mod Flat
 pub mod Given
 pub mod Mark
 pub mod NewPoint

@@ -8,8 +8,9 @@
 --   additionsOf o n d ss ps   the additions of the three eliminations
 --   partDiffers r side        the rank of a side's part is not that of the set
 --   differ r                  one of the two is not
+--   flat rs                   the ranks at each degree as numbers: of the set, of part 1 and of part 0
 use mathlib.Core.Bool.{Bool, true, false, not, _||_}
-use mathlib.Core.List.{List}
+use mathlib.Core.List.{List, [], _∷_}
 use Prim.Native.Nat.{ℕ, _+_}
 use lib.Dec.{eqb, leb}
 use lib.ListN.{getD}
@@ -53,3 +54,8 @@ partDiffers r side = not (eqb (r .set) (ofSide side (parts r)))
 -- one of the two is not
 abbrev pub differ : Ranks → Bool
 differ r = partDiffers r 1 || partDiffers r 0
+
+-- the ranks at each degree, one after the other
+unfoldable pub flat : List Ranks → List ℕ
+flat [] = []
+flat (r ∷ rs) = r .set ∷ r .one ∷ r .zero ∷ flat rs

@@ -1,11 +1,9 @@
 -- The contract of `judge`, read at the finding that was matched, states the outcome; status and report are those of what the finding states (left-by).
 use borrow.Author.Needs.{needs}
 use mathlib.Core.Path.{_≡_, refl, sym, ap, _∙_}
-use mathlib.Core.List.{List, [], _∷_}
-use mathlib.Core.Option.{Option, some, Option·getD}
-use Prim.Native.Nat.{ℕ, _+_, _<_}
+use mathlib.Core.List.{List}
+use Prim.Native.Nat.{ℕ}
 use native.Mathlib.Omega.{arith}
-use lib.ListN.{length, getD}
 use Rattle.refusal.specs.Outcome.{Outcome, accepted, leftBy}
 use Rattle.refusal.specs.Status.{statusOf}
 use Rattle.filter.specs.Sides.{Sides}
@@ -14,17 +12,11 @@ use Rattle.judge.specs.declared.JudgeAnswer.{JudgeAnswer}
 use Rattle.judge.specs.declared.Finding.{Finding}
 use Rattle.judge.specs.Judge.{found, JudgeContract}
 use Rattle.judge.proofs.Passed.{Fits, accepted-fits}
-use Rattle.exports.specs.Report.{degreeNumber, sideNumber, reportOf}
-use Rattle.exports.specs.Exported.{StandsFor, JudgeStatus}
-use Rattle.exports.proofs.Flat.{behind-ranks, number-most, number-stands}
+use Rattle.judge_report.specs.Report.{reportOf}
+use Rattle.judge_report.proofs.Numbers.{number-most, stands}
+use Rattle.exports.specs.Exported.{JudgeStatus}
 use Rattle.exports.proofs.ekthavrul_judge.Statement.{statement}
 use Rattle.exports.proofs.ekthavrul_judge.Tie as tie
-
--- a number of a report, behind the ranks, that stands for what there may be
-stands : (j : Judgement) → length (j .ranks) ≡ 10 → {ns : List ℕ} → ns ≡ reportOf j → (i : ℕ) (x : Option ℕ) (m : ℕ)
-    → getD (degreeNumber (j .degree) ∷ sideNumber (j .side) ∷ j .additions ∷ degreeNumber (j .degrees .one) ∷ degreeNumber (j .degrees .zero) ∷ degreeNumber (j .mark) ∷ []) i 0 ≡ Option·getD x m
-    → ((k : ℕ) → x ≡ some k → k < m) → StandsFor x m (getD ns (30 + i) 0)
-stands j long e i x m is low = rw (e, behind-ranks (j .ranks) (j .degree) (j .side) (j .additions) (j .degrees) (j .mark) long i ∙ is) (number-stands x m low)
 
 module _ {o : Outcome Judgement} {ws ws′ : List ℕ} {w w′ : Sides (List ℕ)} {m m′ : List ℕ} {answer : JudgeAnswer} (h : JudgeContract o ws ws′ w w′ m m′ answer)
     {x : Finding} (e : answer .finding ≡ x) where

@@ -1,9 +1,9 @@
 use borrow.Author.Needs.{needs}
 use mathlib.Core.Option.{some}
 use native.Mathlib.Omega.{arith}
-use Rattle.exports.proofs.Flat.{flat-last}
-use Rattle.exports.proofs.report.report_of.Statement.{statement}
-use Rattle.exports.proofs.report.report_of.Tie as tie
+use Rattle.judge_report.proofs.Numbers.{flat-last}
+use Rattle.judge_report.proofs.report_of.Statement.{statement}
+use Rattle.judge_report.proofs.report_of.Tie as tie
 
 returns : tie.Need-returns
 returns c =

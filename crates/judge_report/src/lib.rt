@@ -1,12 +1,14 @@
-// The report: what Judge answers beside its buffers, as one array of numbers with an index for each. A number that is
-// added later goes behind the last, so that no index ever changes. include/ekthavrul.h gives C the same indices.
+// The report: docs/SPECIFICATION.md, 'Library'. What Judge answers beside its buffers, as one array of numbers with an
+// index for each. A number that is added later goes behind the last, so that no index ever changes. include/ekthavrul.h
+// gives C the same indices.
 ghost use mathlib.Core.Path.{_≡_};
 ghost use mathlib.Core.Option.{none, some};
 ghost use Prim.Native.Nat.{_≤_};
 ghost use lib.ListN.{take};
 ghost use Rattle.filter.specs.Sides.{pair};
+ghost use Rattle.immunity.specs.Ranks.{flat};
 ghost use Rattle.immunity.specs.FirstDegree.{degreeOf, degreesOf};
-ghost use Rattle.exports.specs.Report.{flat, degreeNumber, numbers as numbersOf};
+ghost use Rattle.judge_report.specs.Report.{degreeNumber, numbers as numbersOf};
 use immunity::FirstDegree;
 use immunity::Ranks;
 use judge::Report;

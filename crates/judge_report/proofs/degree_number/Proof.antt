@@ -3,9 +3,9 @@ use mathlib.Core.Path.{subst}
 use Prim.Native.Nat.{_≤_}
 use native.Mathlib.Omega.{arith}
 use Rattle.immunity.specs.FirstDegree.{degreeOf}
-use Rattle.exports.specs.Report.{degreeNumber}
-use Rattle.exports.proofs.report.degree_number.Statement.{statement}
-use Rattle.exports.proofs.report.degree_number.Tie as tie
+use Rattle.judge_report.specs.Report.{degreeNumber}
+use Rattle.judge_report.proofs.degree_number.Statement.{statement}
+use Rattle.judge_report.proofs.degree_number.Tie as tie
 
 cast-result : tie.Need-cast-result
 cast-result c = let at = c .before in omega (arith, subst (λ x. degreeNumber (degreeOf x) ≤ 10) (at .degree .given .1) (at .before .before .pre))

@@ -3,9 +3,9 @@ use mathlib.Core.Path.{refl}
 use mathlib.Core.Option.{none}
 use native.Mathlib.Omega.{arith}
 use Rattle.filter.specs.Sides.{pair}
-use Rattle.exports.proofs.Flat.{flat-last}
-use Rattle.exports.proofs.report.no_point_report.Statement.{statement}
-use Rattle.exports.proofs.report.no_point_report.Tie as tie
+use Rattle.judge_report.proofs.Numbers.{flat-last}
+use Rattle.judge_report.proofs.no_point_report.Statement.{statement}
+use Rattle.judge_report.proofs.no_point_report.Tie as tie
 
 returns : tie.Need-returns
 returns c = flat-last (c .rank-numbers .result) _ none none 0 (pair none none) none (search needs) (c .rank-numbers .ensures) refl refl

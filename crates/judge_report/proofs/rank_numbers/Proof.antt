@@ -5,10 +5,10 @@ use Prim.Native.Nat.{ℕ, _-_, _*_, _≤_}
 use native.Mathlib.Omega.{arith}
 use lib.ListN.{length, take, replicate, length-replicate}
 use lib.Seq.{take-all}
-use Rattle.exports.specs.Report.{flat}
-use Rattle.exports.proofs.Flat.{flat-none, length-stored, flat-next}
-use Rattle.exports.proofs.report.rank_numbers.Statement.{statement}
-use Rattle.exports.proofs.report.rank_numbers.Tie as tie
+use Rattle.immunity.specs.Ranks.{flat}
+use Rattle.immunity.proofs.Flat.{flat-none, length-stored, flat-next}
+use Rattle.judge_report.proofs.rank_numbers.Statement.{statement}
+use Rattle.judge_report.proofs.rank_numbers.Tie as tie
 
 abbrev Inv-loop : tie.InvT-loop
 Inv-loop ranks numbers₀ d₀ numbers d = (d ≤ 10) × (length numbers ≡ 36) × (take (3 * d) numbers ≡ flat (take d ranks))

@@ -1,0 +1,2 @@
+-- The report of Judge.
+pub mod Report
