@@ -20,8 +20,9 @@
  * then. Every other pointer is to one object, or to an array of the length that stands in its declaration.
  *
  * Each operation but Hand over answers a status: EKTHAVRUL_ACCEPTED, or the number of the first refusal, in the order that
- * stands above its declaration. A refusal leaves all that is lent as it was; RANKS_DIFFER alone clears the workspace. An
- * accepted operation leaves the workspace all zero; what stands in it before does not matter.
+ * stands above its declaration, where EKTHAVRUL_REFUSED_ is left out of the names. A refusal leaves all that is lent as it
+ * was; RANKS_DIFFER alone clears the workspace. An accepted operation leaves the workspace all zero; what stands in it
+ * before does not matter.
  */
 #ifndef EKTHAVRUL_H
 #define EKTHAVRUL_H
@@ -76,18 +77,18 @@ enum {
 /* What an operation answers; none answers 6. */
 enum {
     EKTHAVRUL_ACCEPTED = 0,
-    EKTHAVRUL_LENGTH = 1,          /* a buffer has the wrong length */
-    EKTHAVRUL_FILE_ENDS = 2,       /* the file ends before or inside a number */
-    EKTHAVRUL_NUMBER_FORM = 3,     /* a number is not in its shortest form, or has more than two groups */
-    EKTHAVRUL_TAPS = 4,            /* n is not from 1 to 9 */
-    EKTHAVRUL_RANGE = 5,           /* a count over 2^n, a difference of 0, or a point of 2^n or more */
-    EKTHAVRUL_SURPLUS = 7,         /* bytes remain after the file's last number */
-    EKTHAVRUL_BYTES = 8,           /* a byte of a mask is not 0 or 1, or not 0 past the last point */
-    EKTHAVRUL_ZERO_POLYNOMIAL = 9, /* the zero polynomial has no degree */
-    EKTHAVRUL_DEGREE = 10,         /* the degree d is over n */
-    EKTHAVRUL_SIDE = 11,           /* the side is neither 0 nor 1 */
-    EKTHAVRUL_RANKS_DIFFER = 12,   /* at d the part's rank is not that of the set */
-    EKTHAVRUL_SHORT_OUTPUT = 13    /* the output is shorter than the file */
+    EKTHAVRUL_REFUSED_LENGTH = 1,          /* a buffer has the wrong length */
+    EKTHAVRUL_REFUSED_FILE_ENDS = 2,       /* the file ends before or inside a number */
+    EKTHAVRUL_REFUSED_NUMBER_FORM = 3,     /* a number is not in its shortest form, or has more than two groups */
+    EKTHAVRUL_REFUSED_TAPS = 4,            /* n is not from 1 to 9 */
+    EKTHAVRUL_REFUSED_RANGE = 5,           /* a count over 2^n, a difference of 0, or a point of 2^n or more */
+    EKTHAVRUL_REFUSED_SURPLUS = 7,         /* bytes remain after the file's last number */
+    EKTHAVRUL_REFUSED_BYTES = 8,           /* a byte of a mask is not 0 or 1, or not 0 past the last point */
+    EKTHAVRUL_REFUSED_ZERO_POLYNOMIAL = 9, /* the zero polynomial has no degree */
+    EKTHAVRUL_REFUSED_DEGREE = 10,         /* the degree d is over n */
+    EKTHAVRUL_REFUSED_SIDE = 11,           /* the side is neither 0 nor 1 */
+    EKTHAVRUL_REFUSED_RANKS_DIFFER = 12,   /* at d the part's rank is not that of the set */
+    EKTHAVRUL_REFUSED_SHORT_OUTPUT = 13    /* the output is shorter than the file */
 };
 
 /*

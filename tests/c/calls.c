@@ -57,7 +57,8 @@ static int kept_stays(void) {
 /* Read of the file of the printed sheet leaves its filter in the set and the table. */
 static void check_read(void) {
     size_t n = 77, length = sizeof printed_file;
-    expect(ekthavrul_read(printed_file, length - 1, set, POINTS, table, POINTS, &n) == EKTHAVRUL_FILE_ENDS && n == 77,
+    expect(ekthavrul_read(printed_file, length - 1, set, POINTS, table, POINTS, &n) == EKTHAVRUL_REFUSED_FILE_ENDS &&
+               n == 77,
            "Read refuses");
     expect(ekthavrul_read(printed_file, length, set, POINTS, table, POINTS, &n) == 0 && n == 2, "Read accepts");
     expect(set[0] && set[1] && set[2] && set[3] && !set[4], "the set read");
@@ -75,8 +76,10 @@ static void check_write(void) {
     size_t length = 77, enough = sizeof printed_file;
     memset(output, 77, sizeof output);
     memcpy(entry, output, sizeof entry);
-    expect(write_file(2, output, enough - 1, &length) == EKTHAVRUL_SHORT_OUTPUT, "Write refuses a short output");
-    expect(write_file(1, output, sizeof output, &length) == EKTHAVRUL_BYTES, "Write refuses a point past the last");
+    expect(write_file(2, output, enough - 1, &length) == EKTHAVRUL_REFUSED_SHORT_OUTPUT,
+           "Write refuses a short output");
+    expect(write_file(1, output, sizeof output, &length) == EKTHAVRUL_REFUSED_BYTES,
+           "Write refuses a point past the last");
     expect(length == 77, "the length after Write refused");
     expect(memcmp(output, entry, sizeof output) == 0, "the output after Write refused");
     expect(write_file(2, output, sizeof output, &length) == 0 && length == enough, "Write accepts");
@@ -91,9 +94,10 @@ static void check_normal_form(void) {
     choose(wanted, (int[]){7, -1});
     expect(ekthavrul_convert(bytes, POINTS, 3) == 0 && memcmp(bytes, wanted, POINTS) == 0, "Convert, case 1");
     expect(ekthavrul_degree(bytes, POINTS, 3, &degree) == 0 && degree == 3, "Degree, case 1");
-    expect(ekthavrul_convert(bytes, POINTS - 1, 3) == EKTHAVRUL_LENGTH, "Convert refuses a length");
+    expect(ekthavrul_convert(bytes, POINTS - 1, 3) == EKTHAVRUL_REFUSED_LENGTH, "Convert refuses a length");
     choose(bytes, (int[]){-1});
-    expect(ekthavrul_degree(bytes, POINTS, 1, &degree) == EKTHAVRUL_ZERO_POLYNOMIAL && degree == 3, "Degree, case 3");
+    expect(ekthavrul_degree(bytes, POINTS, 1, &degree) == EKTHAVRUL_REFUSED_ZERO_POLYNOMIAL && degree == 3,
+           "Degree, case 3");
 }
 
 /* Rank of the mask of two taps at the degree, with so many bytes for the kept points, spoiled before; its status. */
@@ -111,9 +115,9 @@ static void check_rank(void) {
     expect(rank == 0 && additions == 0 && kept_are((int[]){-1}), "the rank of no points");
     expect(rank_mask(set, 1, POINTS, &rank, &additions) == 0 && rank == 3, "Rank, case 5");
     expect(kept_are((int[]){0, 1, 2, -1}), "the kept points of case 5");
-    expect(rank_mask(set, 3, POINTS, &rank, &additions) == EKTHAVRUL_DEGREE, "Rank refuses a degree");
+    expect(rank_mask(set, 3, POINTS, &rank, &additions) == EKTHAVRUL_REFUSED_DEGREE, "Rank refuses a degree");
     expect(rank == 3 && kept_stays(), "the kept points after Rank refused a degree");
-    expect(rank_mask(set, 3, POINTS - 1, &rank, &additions) == EKTHAVRUL_LENGTH, "Rank refuses a length");
+    expect(rank_mask(set, 3, POINTS - 1, &rank, &additions) == EKTHAVRUL_REFUSED_LENGTH, "Rank refuses a length");
     expect(rank == 3 && kept_stays(), "the kept points after Rank refused a length");
 }
 
@@ -138,9 +142,10 @@ static void check_report(void) {
     const uint32_t *last = report + 2 * EKTHAVRUL_RANKS_OF_DEGREE;
     memset(report, 77, sizeof report);
     memcpy(entry, report, sizeof entry);
-    expect(judge(10, report) == EKTHAVRUL_TAPS && memcmp(report, entry, sizeof report) == 0, "Judge refuses taps");
+    expect(judge(10, report) == EKTHAVRUL_REFUSED_TAPS && memcmp(report, entry, sizeof report) == 0,
+           "Judge refuses taps");
     expect(kept_stays(), "the kept points after Judge refused taps");
-    expect(judge_kept(10, POINTS - 1, report) == EKTHAVRUL_LENGTH && kept_stays(), "Judge refuses a length");
+    expect(judge_kept(10, POINTS - 1, report) == EKTHAVRUL_REFUSED_LENGTH && kept_stays(), "Judge refuses a length");
     expect(judge(2, report) == 0 && memcmp(report, wanted, sizeof wanted) == 0, "Judge, case 5");
     expect(kept_are((int[]){0, 1, 2, -1}), "the kept points of case 5 at its degree");
     expect(report[EKTHAVRUL_REPORT] == entry[EKTHAVRUL_REPORT], "the number behind the report");
@@ -169,7 +174,7 @@ static void check_certify(void) {
                certificate[3 * EKTHAVRUL_ROW_WORDS] == 0,
            "the sums of side 1");
     expect(certify(0, 0) == 0 && certificate[0] == 0 && certificate[3 * EKTHAVRUL_ROW_WORDS] == 1, "side 0");
-    expect(certify(1, 1) == EKTHAVRUL_RANKS_DIFFER, "Certify refuses where the ranks differ");
+    expect(certify(1, 1) == EKTHAVRUL_REFUSED_RANKS_DIFFER, "Certify refuses where the ranks differ");
 }
 
 /* Check of the certificate, so many of its numbers, for side 0 of the filter of two taps at the degree; its status. */
@@ -200,8 +205,9 @@ static void check_check(void) {
     *sum = 1;
     certificate[EKTHAVRUL_CERTIFICATE - 1] = 1;
     check_answer(0, 0, "Check says no to a bit of the last number");
-    expect(check(3, EKTHAVRUL_CERTIFICATE, &yes) == EKTHAVRUL_DEGREE && yes == 77, "Check refuses a degree");
-    expect(check(0, EKTHAVRUL_CERTIFICATE - 1, &yes) == EKTHAVRUL_LENGTH && yes == 77, "Check refuses a length");
+    expect(check(3, EKTHAVRUL_CERTIFICATE, &yes) == EKTHAVRUL_REFUSED_DEGREE && yes == 77, "Check refuses a degree");
+    expect(check(0, EKTHAVRUL_CERTIFICATE - 1, &yes) == EKTHAVRUL_REFUSED_LENGTH && yes == 77,
+           "Check refuses a length");
 }
 
 /* Judge of the point 0 of one tap, with f one at the listed points: side 1's own degree and side 0's. */
@@ -232,7 +238,8 @@ static void check_empty_file(void) {
     size_t n = 77, length = 77;
     memset(set, 77, sizeof set);
     memset(table, 77, sizeof table);
-    expect(ekthavrul_read(file, 2, set, POINTS, table, POINTS, &n) == EKTHAVRUL_FILE_ENDS && n == 77, "Read of 01 00");
+    expect(ekthavrul_read(file, 2, set, POINTS, table, POINTS, &n) == EKTHAVRUL_REFUSED_FILE_ENDS && n == 77,
+           "Read of 01 00");
     expect(ekthavrul_read(file, sizeof file, set, POINTS, table, POINTS, &n) == 0 && n == 1, "Read of 01 00 00");
     expect(zeros(set, sizeof set) && zeros(table, sizeof table), "the set and the table of 01 00 00");
     expect(write_file(1, output, sizeof output, &length) == 0 && length == sizeof file, "Write of no point");
@@ -277,8 +284,9 @@ static void check_empty_set(void) {
     check_empty_report(2);
     for (size_t d = 0; d <= 2; d++)
         check_empty_certificate(d);
-    expect(certify(0, 3) == EKTHAVRUL_DEGREE && certify(2, 2) == EKTHAVRUL_SIDE, "Certify of no point refuses");
-    expect(check(3, EKTHAVRUL_CERTIFICATE, &yes) == EKTHAVRUL_DEGREE && yes == 77, "Check of no point refuses");
+    expect(certify(0, 3) == EKTHAVRUL_REFUSED_DEGREE && certify(2, 2) == EKTHAVRUL_REFUSED_SIDE,
+           "Certify of no point refuses");
+    expect(check(3, EKTHAVRUL_CERTIFICATE, &yes) == EKTHAVRUL_REFUSED_DEGREE && yes == 77, "Check of no point refuses");
 }
 
 /* Makes every check; the status is 0 if there was no fault. */
