@@ -30,6 +30,13 @@
 #include <stddef.h>
 #include <stdint.h>
 
+/*
+ * The version of this header. MAJOR rises where a program that compiled before may not compile, or means something else;
+ * MINOR rises where something is added, and is 0 again where MAJOR rises.
+ */
+#define EKTHAVRUL_VERSION_MAJOR 1
+#define EKTHAVRUL_VERSION_MINOR 0
+
 #ifdef __cplusplus
 extern "C" {
 #endif

@@ -3,6 +3,10 @@
 #include <stdio.h>
 #include <string.h>
 
+#if EKTHAVRUL_VERSION_MAJOR != 1
+#error "these are the calls of version 1"
+#endif
+
 enum { POINTS = EKTHAVRUL_POINTS };
 
 /* The file of the printed sheet. */
