@@ -14,10 +14,10 @@
  * A point of a mask is kept at degree d if its row at d is no sum of the rows of smaller points of the mask. There are as
  * many kept points as the rank at d, and they alone have that rank.
  *
- * A slice is a pointer and its length in elements; the pointer is never null. What is written to, a slice, a number or
- * the report, overlaps with nothing else that is lent. Every length may be passed: a wrong one is refused. The memory is
- * there for the whole of the length that is passed, also where that is wrong: the bytes of a mask are looked at even
- * then. Every other pointer is to one object, or to an array of the length that stands in its declaration.
+ * A slice is a pointer and its length in elements; the pointer is never null. What is written to, a slice or a number,
+ * overlaps with nothing else that is lent. Every length may be passed: a wrong one is refused. The memory is there for the
+ * whole of the length that is passed, also where that is wrong: the bytes of a mask are looked at even then. Every other
+ * pointer is to one object.
  *
  * Each operation but Hand over answers a status: EKTHAVRUL_ACCEPTED, or the number of the first refusal, in the order that
  * stands above its declaration, where EKTHAVRUL_REFUSED_ is left out of the names. A refusal leaves all that is lent as it
@@ -56,8 +56,10 @@ enum {
  * The report of Judge: the index of each of its numbers. The ranks of degree d, from 0 to 9, stand
  * EKTHAVRUL_RANKS_OF_DEGREE * d behind those of degree 0, so that the rank of part 1 at degree d is
  * report[EKTHAVRUL_RANKS_OF_DEGREE * d + EKTHAVRUL_RANK_ONE_AT].
- * Later versions may append numbers: EKTHAVRUL_REPORT grows then, and no index changes. All EKTHAVRUL_REPORT numbers are
- * written, so compile with the header of the library that is linked.
+ * Later versions may append numbers: EKTHAVRUL_REPORT and EKTHAVRUL_VERSION_MINOR grow then, and no index changes. All
+ * EKTHAVRUL_REPORT numbers are written, and no other length is accepted: a program compiled with an older header of the
+ * same MAJOR than that of the library lends too few, and is refused by EKTHAVRUL_REFUSED_LENGTH; its memory stays as it
+ * was.
  */
 enum {
     EKTHAVRUL_RANK_SET_AT = 0,     /* the rank of S at degree 0 */
@@ -152,11 +154,11 @@ uint8_t ekthavrul_rank(const uint8_t *mask, size_t mask_length, size_t n, size_t
  * Where S has no point, the ranks and the additions are 0, the degree, both own degrees and the mark EKTHAVRUL_NO_DEGREE,
  * and the side EKTHAVRUL_NO_SIDE; `one`, `zero` and `kept` become zeros, whatever they held.
  * A refusal leaves the report and `kept` as they were, like all that is lent.
- * Refusals: LENGTH (set, table, workspace, one, zero, kept), TAPS, BYTES (set, then table).
+ * Refusals: LENGTH (set, table, workspace, one, zero, kept, report), TAPS, BYTES (set, then table).
  */
 uint8_t ekthavrul_judge(const uint8_t *set, size_t set_length, const uint8_t *table, size_t table_length, size_t n,
                         uint64_t *workspace, size_t workspace_length, uint8_t *one, size_t one_length, uint8_t *zero,
-                        size_t zero_length, uint8_t *kept, size_t kept_length, uint32_t report[EKTHAVRUL_REPORT]);
+                        size_t zero_length, uint8_t *kept, size_t kept_length, uint32_t *report, size_t report_length);
 
 /*
  * Certify: why no polynomial up to degree d is zero on the side's part and not on all of S: for each point a of S

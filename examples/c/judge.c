@@ -77,7 +77,7 @@ static int judge(const uint8_t *set, const uint8_t *table, size_t n) {
     uint8_t one[EKTHAVRUL_POINTS], zero[EKTHAVRUL_POINTS], kept[EKTHAVRUL_POINTS];
     uint32_t report[EKTHAVRUL_REPORT];
     uint8_t status = ekthavrul_judge(set, EKTHAVRUL_POINTS, table, EKTHAVRUL_POINTS, n, workspace, EKTHAVRUL_WORKSPACE,
-                                     one, sizeof one, zero, sizeof zero, kept, sizeof kept, report);
+                                     one, sizeof one, zero, sizeof zero, kept, sizeof kept, report, EKTHAVRUL_REPORT);
     if (status != EKTHAVRUL_ACCEPTED)
         return refused(status);
     print_report(report);

@@ -31,12 +31,17 @@ static void choose(uint8_t *mask, const int *points) {
         mask[*points] = 1;
 }
 
-/* Whether every byte is 0. */
-static int zeros(const void *memory, size_t length) {
+/* Whether every byte is this one. */
+static int all(const void *memory, size_t length, uint8_t byte) {
     const uint8_t *bytes = memory;
-    while (length > 0 && bytes[length - 1] == 0)
+    while (length > 0 && bytes[length - 1] == byte)
         length--;
     return length == 0;
+}
+
+/* Whether every byte is 0. */
+static int zeros(const void *memory, size_t length) {
+    return all(memory, length, 0);
 }
 
 /* Every byte of the mask of the kept points becomes one that no mask has. */
@@ -53,9 +58,7 @@ static int kept_are(const int *points) {
 
 /* Whether the mask of the kept points is as it was spoiled. */
 static int kept_stays(void) {
-    uint8_t wanted[POINTS];
-    memset(wanted, 77, sizeof wanted);
-    return memcmp(kept, wanted, sizeof wanted) == 0;
+    return all(kept, sizeof kept, 77);
 }
 
 /* Read of the file of the printed sheet leaves its filter in the set and the table. */
@@ -125,16 +128,29 @@ static void check_rank(void) {
     expect(rank == 3 && kept_stays(), "the kept points after Rank refused a length");
 }
 
-/* Judge of the filter of n taps, with so many bytes for the kept points, spoiled before; its status. */
-static uint8_t judge_kept(size_t n, size_t length, uint32_t *report) {
+/* Judge of the filter of n taps, with so many bytes for the kept points, spoiled before, and a report; its status. */
+static uint8_t judge_lent(size_t n, size_t kept_length, uint32_t *report, size_t report_length) {
     spoil_kept();
     return ekthavrul_judge(set, POINTS, table, POINTS, n, workspace, EKTHAVRUL_WORKSPACE, one, POINTS, zero, POINTS,
-                           kept, length, report);
+                           kept, kept_length, report, report_length);
 }
 
 /* The same with as many as there must be. */
 static uint8_t judge(size_t n, uint32_t *report) {
-    return judge_kept(n, POINTS, report);
+    return judge_lent(n, POINTS, report, EKTHAVRUL_REPORT);
+}
+
+/* Judge refuses a report of so many numbers, at most one more than there must be; all that is lent is as it was. */
+static void check_report_length(size_t length) {
+    uint32_t report[EKTHAVRUL_REPORT + 1];
+    memset(report, 77, sizeof report);
+    memset(workspace, 77, sizeof workspace);
+    memset(one, 77, sizeof one);
+    memset(zero, 77, sizeof zero);
+    expect(judge_lent(2, POINTS, report, length) == EKTHAVRUL_REFUSED_LENGTH, "Judge refuses a report");
+    expect(all(report, sizeof report, 77), "the report that Judge refused");
+    expect(all(workspace, sizeof workspace, 77), "the workspace after Judge refused a report");
+    expect(all(one, sizeof one, 77) && all(zero, sizeof zero, 77) && kept_stays(), "the masks after a refused report");
 }
 
 /* The report of case 5, lent with a number behind it, which stays; a refusal leaves all of it as it was. */
@@ -149,7 +165,11 @@ static void check_report(void) {
     expect(judge(10, report) == EKTHAVRUL_REFUSED_TAPS && memcmp(report, entry, sizeof report) == 0,
            "Judge refuses taps");
     expect(kept_stays(), "the kept points after Judge refused taps");
-    expect(judge_kept(10, POINTS - 1, report) == EKTHAVRUL_REFUSED_LENGTH && kept_stays(), "Judge refuses a length");
+    expect(judge_lent(10, POINTS - 1, report, EKTHAVRUL_REPORT) == EKTHAVRUL_REFUSED_LENGTH && kept_stays(),
+           "Judge refuses a length");
+    check_report_length(EKTHAVRUL_REPORT - 1);
+    check_report_length(EKTHAVRUL_REPORT + 1);
+    check_report_length(0);
     expect(judge(2, report) == 0 && memcmp(report, wanted, sizeof wanted) == 0, "Judge, case 5");
     expect(kept_are((int[]){0, 1, 2, -1}), "the kept points of case 5 at its degree");
     expect(report[EKTHAVRUL_REPORT] == entry[EKTHAVRUL_REPORT], "the number behind the report");

@@ -3,7 +3,7 @@
 --   ReadStatus o ..      the status, both buffers and the number of taps after Read
 --   WriteStatus o ..     the status, the output and the length of the file after Write
 --   RankStatus o ..      the status, the workspace, the mask of kept points, the rank and the additions after Rank
---   JudgeStatus o ..     the status, the workspace, the witness buffers, the mask of kept points and the report after Judge
+--   JudgeStatus o ..     the status, the workspace, the witness buffers, the mask of kept points and the report after Judge; o is `reportedOutcome`
 --   CertifyStatus o ..   the status, the workspace and the certificate after Certify
 --   CheckStatus o ..     the status and the number for yes or no after Check
 --   inFront part copy    a buffer with a part at its front, as many bytes as it has room for

@@ -13,6 +13,7 @@ ghost use Rattle.matrix.specs.Rank.{rankOutcome};
 ghost use Rattle.filter_file.specs.Read.{readOutcome};
 ghost use Rattle.filter_file.specs.Write.{writeOutcome};
 ghost use Rattle.judge.specs.Judge.{judgeOutcome};
+ghost use Rattle.judge_report.specs.Report.{reportedOutcome};
 ghost use Rattle.certify.specs.Certify.{certifyOutcome};
 ghost use Rattle.checker.specs.Check.{checkOutcome};
 ghost use Rattle.exports.specs.Exported.{ReadStatus, WriteStatus, RankStatus, JudgeStatus, CertifyStatus, CheckStatus, inFront, HandOverStatus};
@@ -21,13 +22,12 @@ use certify::CertifyAnswer;
 use checker::CheckAnswer;
 use filter_file::read::ReadAnswer;
 use filter_file::write::WriteAnswer;
-use judge::Finding;
 use judge_report::REPORT;
-use judge_report::no_point_report;
-use judge_report::report_of;
+use judge_report::write_report;
 use matrix::rank::RankAnswer;
 use polynomial::convert::ConvertAnswer;
 use polynomial::degree::DegreeAnswer;
+use refusal::Refusal;
 
 // Convert.
 #[no_mangle]
@@ -114,7 +114,7 @@ pub extern "C" fn ekthavrul_rank(
 
 // Judge: the mask of the kept points of the set at the reported degree goes to `kept`; the ranks at each degree, the
 // reported degree, the side, the count of additions, each side's own degree and the mark go to `report`, with numbers
-// that the header names for what a set without a point does not have.
+// that the header names for what a set without a point does not have. A report of another length is refused first.
 #[no_mangle]
 pub extern "C" fn ekthavrul_judge(
     set: &[u8],
@@ -124,26 +124,16 @@ pub extern "C" fn ekthavrul_judge(
     one: &mut [u8],
     zero: &mut [u8],
     kept: &mut [u8],
-    report: &mut [u32; REPORT],
+    report: &mut [u32],
 ) -> u8
-    ensures { λ r. ⌜ JudgeStatus (judgeOutcome graded (now (set .entry)) (now (table .entry)) n (length (now (workspace .entry))) (length (now (one .entry))) (length (now (zero .entry))) (length (now (kept .entry))))
+    ensures { λ r. ⌜ JudgeStatus (reportedOutcome (length (now (report .entry))) (judgeOutcome graded (now (set .entry)) (now (table .entry)) n (length (now (workspace .entry))) (length (now (one .entry))) (length (now (zero .entry))) (length (now (kept .entry)))))
         (now (workspace .entry)) (now (workspace .exit)) (pair (now (one .entry)) (now (zero .entry))) (pair (now (one .exit)) (now (zero .exit))) (now (kept .entry)) (now (kept .exit)) (now (report .entry)) (now (report .exit)) r ⌝ }
 {
-    let answer = judge::judge(set, table, n, workspace, one, zero, kept);
-    let finding = answer.finding;
-    match finding {
-        Finding::Refused(x) => refusal::number(x),
-        Finding::NoPoint => {
-            let ranks = answer.ranks;
-            *report = no_point_report(ranks);
-            0
-        }
-        Finding::Judged(found) => {
-            let ranks = answer.ranks;
-            *report = report_of(ranks, found);
-            0
-        }
+    if report.len() != REPORT {
+        return refusal::number(Refusal::Length);
     }
+    let answer = judge::judge(set, table, n, workspace, one, zero, kept);
+    write_report(answer, report)
 }
 
 // Certify: the certificate goes to `certificate`.

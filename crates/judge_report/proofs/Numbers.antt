@@ -4,6 +4,7 @@
 --   number-most       the number of a degree up to 9, or of none, is at most 10
 --   number-stands     a number over all that there may be stands for none
 --   stands            so does each number of a report, behind the ranks
+--   reportable        what Judge found can be reported, where the judgements that are accepted fit
 use mathlib.Core.Path.{_≡_, refl, sym, ap, ap₂, _∙_}
 use mathlib.Core.List.{List, [], _∷_, _++_, append-assoc}
 use mathlib.Core.Option.{Option, none, some, Option·getD, Option·none-ne-some, Option·some-ne-none, Option·some-injective}
@@ -11,12 +12,18 @@ use Prim.Native.Nat.{ℕ, _+_, _≤_, _<_}
 use native.Mathlib.Omega.{arith}
 use lib.ListN.{length, getD, take}
 use lib.Seq.{take-all, getD-append-add}
+use Rattle.refusal.specs.Outcome.{Outcome, accepted}
 use Rattle.filter.specs.Sides.{Sides}
 use Rattle.immunity.specs.declared.Ranks.{Ranks}
 use Rattle.immunity.specs.Ranks.{flat}
 use Rattle.immunity.specs.Judgement.{Judgement}
+use Rattle.judge.specs.declared.JudgeAnswer.{JudgeAnswer}
+use Rattle.judge.specs.declared.Finding.{Finding}
+use Rattle.judge.specs.declared.Finding.the-variants.{Refused, NoPoint, Judged}
+use Rattle.judge.specs.Judge.{found, JudgeContract}
+use Rattle.judge.proofs.Passed.{Fits}
 use Rattle.immunity.proofs.Flat.{stored, length-stored, take-stored, length-flat}
-use Rattle.judge_report.specs.Report.{degreeNumber, sideNumber, numbers, reportOf, StandsFor}
+use Rattle.judge_report.specs.Report.{degreeNumber, sideNumber, numbers, reportOf, StandsFor, Reportable}
 
 -- the six numbers behind the ranks of all degrees
 pub flat-last : (out : List ℕ) (rs : List Ranks) (k side : Option ℕ) (a : ℕ) (ks : Sides (Option ℕ)) (m : Option ℕ) {x y : ℕ} → length out ≡ 36 → take 30 out ≡ flat rs
@@ -60,3 +67,17 @@ pub stands : (j : Judgement) → length (j .ranks) ≡ 10 → {ns : List ℕ} �
     → getD (degreeNumber (j .degree) ∷ sideNumber (j .side) ∷ j .additions ∷ degreeNumber (j .degrees .one) ∷ degreeNumber (j .degrees .zero) ∷ degreeNumber (j .mark) ∷ []) i 0 ≡ Option·getD x m
     → ((k : ℕ) → x ≡ some k → k < m) → StandsFor x m (getD ns (30 + i) 0)
 stands j long e i x m is low = rw (e, behind-ranks (j .ranks) (j .degree) (j .side) (j .additions) (j .degrees) (j .mark) long i ∙ is) (number-stands x m low)
+
+-- what was found states a judgement that fits
+fits-reportable : (x : Finding) (ranks : List Ranks) (w : Sides (List ℕ)) (m : List ℕ) {o : Outcome Judgement} → found x ranks w m ≡ o
+    → ((j : Judgement) → o ≡ accepted j → Fits j) → Reportable x
+fits-reportable (Refused y) ranks w m e fits = tt
+fits-reportable NoPoint ranks w m e fits = tt
+fits-reportable (Judged r) ranks w m e fits =
+    let f = fits _ (sym e) in
+    (omega (arith, f .degree _ refl), omega (arith, f .mark _ refl), number-most _ (λ d i. omega (arith, f .one d i)), number-most _ (λ d i. omega (arith, f .zero d i)))
+
+-- so what Judge found can be reported
+pub reportable : {o : Outcome Judgement} {ws ws′ : List ℕ} {w w′ : Sides (List ℕ)} {m m′ : List ℕ} {answer : JudgeAnswer} → JudgeContract o ws ws′ w w′ m m′ answer
+    → ((j : Judgement) → o ≡ accepted j → Fits j) → Reportable (answer .finding)
+reportable {w′ = w′} {m′ = m′} {answer = answer} h fits = fits-reportable (answer .finding) (answer .ranks) w′ m′ (h .answers) fits

@@ -70,8 +70,9 @@ pub fn m4ri_steps(runs: usize, filter: Filter) -> Option<[f64; 2]> {
 
 // Judge of the filter.
 pub fn judges(filter: Filter<'_>) -> Vec<Contender<'_, Judged>> {
-    let proved: Judge =
-        |filter, workspace, one, zero, kept| library::judge(filter, workspace, one, zero, kept).expect("accepted");
+    let proved: Judge = |filter, workspace, one, zero, kept| {
+        library::judge(filter, workspace, one, zero, kept, &mut [0; 36]).expect("accepted")
+    };
     let boxed = |judge: Judge| -> Contender<Judged> { Box::new(move |workspace| judged(judge, filter, workspace)) };
     let same_steps = [Some(proved), Some(judge::judge), c::JUDGE].into_iter().flatten().map(boxed);
     same_steps.chain(m4ri::RANK_SUM.map(|rank_sum| ranked(rank_sum, filter))).collect()

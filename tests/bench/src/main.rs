@@ -142,8 +142,9 @@ fn bench_longest_file(all: &[u8]) {
 fn bench_check(title: &str, set: &[u8], table: &[u8]) {
     let (filter, mut random) = (Filter { n: 9, set, table }, Random(4));
     let [mut one, mut zero, mut kept] = [[0; 512]; 3];
-    let judged = library::judge(filter, &mut [0; 8192], &mut one, &mut zero, &mut kept).expect("accepted");
-    let own = certificates(filter).filter(|own| Some(own.d) < judged.degree);
+    let judged = library::judge(filter, &mut [0; 8192], &mut one, &mut zero, &mut kept, &mut [0; 36]);
+    let degree = judged.expect("accepted").degree;
+    let own = certificates(filter).filter(|own| Some(own.d) < degree);
     let both: Vec<Certificate> = own.flat_map(|own| [own.clone(), own.with_longer_sums(&mut random)]).collect();
     println!("Check, n = 9, {title}; microseconds, least of {RUNS} runs, all in turn");
     println!(

@@ -4,9 +4,10 @@ use crate::timing::{Contender, means, race};
 use independent::check::check;
 use independent::filter::Filter;
 use independent::filter_file::{Triple, read, write};
-use independent::judgement::{Judgement, certify, hand_over, judge};
+use independent::judgement::{Judgement, certify, hand_over};
 use independent::normal_form::{convert, degree};
 use independent::rank::{Ranking, points_of, rank};
+use independent::report::judge;
 use independent::sheet::sheet;
 use program::{printed, run, sheet_program};
 use std::fmt::Debug;
@@ -17,7 +18,7 @@ type Write = fn(Filter, &mut [u8]) -> Result<usize, u8>;
 type Convert = fn(&mut [u8], usize) -> Result<(), u8>;
 type Degree = fn(&[u8], usize) -> Result<u32, u8>;
 type Rank = fn(&[u8], usize, usize, &mut [u64], &mut [u8]) -> Result<Ranking, u8>;
-type Judge = fn(Filter, &mut [u64], &mut [u8], &mut [u8], &mut [u8]) -> Result<Judgement, u8>;
+type Judge = fn(Filter, &mut [u64], &mut [u8], &mut [u8], &mut [u8], &mut [u32]) -> Result<Judgement, u8>;
 type Check = fn(Filter, u8, usize, &[u64]) -> Result<bool, u8>;
 type HandOver = fn(usize, u8, &[u8], &[u8], &mut [u8]) -> usize;
 type Sheet = fn(&[u8]) -> String;
@@ -74,7 +75,7 @@ impl Subject {
         library::convert(&mut coefficients, n).expect("a table that Convert accepts");
         let ([one, zero], filter) = (&mut witnesses, Filter { n, set: &set, table: &table });
         let file = Triple::of(filter).file();
-        let judged = library::judge(filter, &mut [0; 8192], one, zero, &mut [0; 512]);
+        let judged = library::judge(filter, &mut [0; 8192], one, zero, &mut [0; 512], &mut [0; 36]);
         let Judgement { degree, side, additions, .. } = judged.expect("a filter that Judge accepts");
         let (degree, side) = degree.zip(side).expect("a set with a point");
         Subject { n, set, table, file, coefficients, degree, side, additions, witnesses }
@@ -139,7 +140,7 @@ impl Subject {
         move |workspace| {
             let mut masks = [[UNWRITTEN; 512]; 3];
             let [one, zero, kept] = &mut masks;
-            (judge(self.filter(), workspace, one, zero, kept).expect("accepted"), masks)
+            (judge(self.filter(), workspace, one, zero, kept, &mut [0; 36]).expect("accepted"), masks)
         }
     }
 

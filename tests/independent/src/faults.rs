@@ -89,6 +89,7 @@ pub struct Asked {
     pub workspace: usize,
     pub witnesses: [usize; 2],
     pub kept: usize,
+    pub report: usize,
     pub certificate: usize,
 }
 
@@ -96,7 +97,7 @@ impl Asked {
     // What all three accept beside a filter with a point in each part.
     pub fn good(random: &mut Random) -> Asked {
         let side = random.pick(&[1, 0]);
-        Asked { side, d: 0, workspace: 8192, witnesses: [512, 512], kept: 512, certificate: 4096 }
+        Asked { side, d: 0, workspace: 8192, witnesses: [512, 512], kept: 512, report: 36, certificate: 4096 }
     }
 }
 

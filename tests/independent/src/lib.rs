@@ -18,6 +18,7 @@ pub mod other_sums; // other_sums.rs: certificates with other sums than those of
 pub mod random; // random.rs: a random generator for tests
 pub mod rank; // rank.rs: Rank
 pub mod refusal; // refusal.rs: the refusals, and the checks that several operations make
+pub mod report; // report.rs: Judge with a report
 pub mod samples; // samples.rs: masks, filters and files for tests
 pub mod sheet; // sheet.rs: the printed sheet
 pub mod span; // span.rs: vectors over two elements, and which of them are sums of earlier ones

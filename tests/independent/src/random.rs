@@ -28,6 +28,11 @@ impl Random {
         (0..count).map(|_| self.number() as u8).collect()
     }
 
+    // Numbers of 32 bits of any value.
+    pub fn numbers(&mut self, count: usize) -> Vec<u32> {
+        (0..count).map(|_| self.number() as u32).collect()
+    }
+
     // Numbers of 64 bits of any value.
     pub fn words(&mut self, count: usize) -> Vec<u64> {
         (0..count).map(|_| self.number()).collect()

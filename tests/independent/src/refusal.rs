@@ -3,6 +3,7 @@
 pub const POINTS: usize = 512;
 pub const WORKSPACE: usize = 8192;
 pub const CERTIFICATE: usize = 4096;
+pub const REPORT: usize = 36;
 
 // Why an operation refuses, each with its number.
 #[derive(Clone, Copy, Debug, PartialEq, Eq)]

@@ -5,30 +5,34 @@ use independent::judgement::{self, Judgement};
 use independent::lent::lend;
 use independent::random::Random;
 use independent::rank::{self, Ranking};
+use independent::report;
 use std::fmt::{Arguments, Debug};
 use std::hint::black_box;
 
 type Rank = fn(&[u8], usize, usize, &mut [u64], &mut [u8]) -> Result<Ranking, u8>;
-type Judge = fn(Filter, &mut [u64], &mut [u8], &mut [u8], &mut [u8]) -> Result<Judgement, u8>;
+type Judge = fn(Filter, &mut [u64], &mut [u8], &mut [u8], &mut [u8], &mut [u32]) -> Result<Judgement, u8>;
 type Certify = fn(Filter, u8, usize, &mut [u64], &mut [u64]) -> Result<(), u8>;
 
 // The lengths that are accepted. Rank: the workspace, the mask of the kept points. Judge: the workspace, the witness
-// buffers of side 1 and side 0, the mask of the kept points. Certify: the workspace, the certificate.
+// buffers of side 1 and side 0, the mask of the kept points, the report. Certify: the workspace, the certificate.
 pub const RANK_LENGTHS: [usize; 2] = [8192, 512];
-pub const JUDGE_LENGTHS: [usize; 4] = [8192, 512, 512, 512];
+pub const JUDGE_LENGTHS: [usize; 5] = [8192, 512, 512, 512, 36];
 pub const CERTIFY_LENGTHS: [usize; 2] = [8192, 4096];
 
-// The buffers that an operation writes to: of numbers, the first of them the workspace, and of bytes.
+// The buffers that an operation writes to: of numbers, the first of them the workspace, of bytes, and the report, which is
+// empty where the operation has none.
 #[derive(Clone)]
 struct Buffers<const W: usize, const B: usize> {
     words: [Vec<u64>; W],
     bytes: [Vec<u8>; B],
+    report: Vec<u32>,
 }
 
 impl<const W: usize, const B: usize> Buffers<W, B> {
     // Buffers of these lengths, full of random content.
-    fn garbage(random: &mut Random, words: [usize; W], bytes: [usize; B]) -> Buffers<W, B> {
-        Buffers { words: words.map(|length| random.words(length)), bytes: bytes.map(|length| random.bytes(length)) }
+    fn garbage(random: &mut Random, words: [usize; W], bytes: [usize; B], report: usize) -> Buffers<W, B> {
+        let (words, bytes) = (words.map(|length| random.words(length)), bytes.map(|length| random.bytes(length)));
+        Buffers { words, bytes, report: random.numbers(report) }
     }
 
     // Acceptance and 12 leave the workspace zero. A refusal leaves all else as it was at entry.
@@ -36,7 +40,7 @@ impl<const W: usize, const B: usize> Buffers<W, B> {
         let cleared = matches!(answer, Ok(_) | Err(12));
         assert!(!cleared || self.words[0].iter().all(|word| *word == 0), "numbers left in the workspace: {asked}");
         assert!(cleared || self.words[0] == entry.words[0], "a refusal wrote in the workspace: {asked}");
-        let stay = self.words[1..] == entry.words[1..] && self.bytes == entry.bytes;
+        let stay = self.words[1..] == entry.words[1..] && self.bytes == entry.bytes && self.report == entry.report;
         assert!(answer.is_ok() || stay, "a refusal wrote in a buffer: {asked}");
     }
 }
@@ -53,6 +57,7 @@ fn agreed<F, A: PartialEq + Debug, const W: usize, const B: usize>(
         (call(operation, &mut lent), lent)
     });
     assert_eq!(proved, plain, "{asked}");
+    assert_eq!(exit.report, plain_exit.report, "the report: {asked}");
     assert_eq!(exit.bytes, plain_exit.bytes, "the buffers of bytes: {asked}");
     assert!(exit.words == plain_exit.words, "the buffers of numbers: {asked}");
     exit.check(&entry, &proved, asked);
@@ -67,9 +72,9 @@ pub fn rank(
     d: usize,
     [workspace, kept]: [usize; 2],
 ) -> Result<(Ranking, Vec<u8>), u8> {
-    let (both, entry) = ([crate::rank as Rank, rank::rank], Buffers::garbage(random, [workspace], [kept]));
+    let (both, entry) = ([crate::rank as Rank, rank::rank], Buffers::garbage(random, [workspace], [kept], 0));
     let asked = format_args!("Rank, n = {n}, d = {d}, mask {mask:?}");
-    let (answer, exit) = agreed(both, entry, asked, |rank, Buffers { words: [workspace], bytes: [kept] }| {
+    let (answer, exit) = agreed(both, entry, asked, |rank, Buffers { words: [workspace], bytes: [kept], .. }| {
         let lent = mask.to_vec();
         let answer = rank(black_box(&lent), n, d, workspace, kept);
         assert_eq!(black_box(&lent), mask, "the mask at exit");
@@ -85,13 +90,13 @@ pub fn rank(
 pub fn judge(
     random: &mut Random,
     filter: Filter,
-    [workspace, one, zero, kept]: [usize; 4],
+    [workspace, one, zero, kept, report]: [usize; 5],
 ) -> Result<(Judgement, Vec<u8>), u8> {
-    let both = [crate::judge as Judge, judgement::judge];
-    let entry = Buffers::garbage(random, [workspace], [one, zero, kept]);
+    let both = [crate::judge as Judge, report::judge];
+    let entry = Buffers::garbage(random, [workspace], [one, zero, kept], report);
     let (answer, exit) = agreed(both, entry, format_args!("Judge of {filter:?}"), |judge, lent| {
-        let Buffers { words: [workspace], bytes: [one, zero, kept] } = lent;
-        lend(filter, |filter| judge(filter, workspace, one, zero, kept))
+        let Buffers { words: [workspace], bytes: [one, zero, kept], report } = lent;
+        lend(filter, |filter| judge(filter, workspace, one, zero, kept, report))
     });
     let (found, has_point) = (answer?, filter.set.contains(&1));
     let own_degree = found.own_degrees.into_iter().flatten().min();
@@ -111,7 +116,7 @@ pub fn certify(
     d: usize,
     lengths: [usize; 2],
 ) -> (Result<(), u8>, Vec<u64>) {
-    let (both, entry) = ([crate::certify as Certify, judgement::certify], Buffers::garbage(random, lengths, []));
+    let (both, entry) = ([crate::certify as Certify, judgement::certify], Buffers::garbage(random, lengths, [], 0));
     let asked = format_args!("Certify of {filter:?}, side {side}, d = {d}");
     let (answer, exit) = agreed(both, entry, asked, |certify, Buffers { words: [workspace, certificate], .. }| {
         lend(filter, |filter| certify(filter, side, d, workspace, certificate))

@@ -16,12 +16,12 @@ unsafe extern "C" {
         zero_length: usize,
         kept: *mut u8,
         kept_length: usize,
-        report: *mut [u32; REPORT],
+        report: *mut u32,
+        report_length: usize,
     ) -> u8;
 }
 
-// The length of the report, and where its numbers stand, as include/ekthavrul.h says.
-const REPORT: usize = 36;
+// Where the numbers of the report stand, as include/ekthavrul.h says.
 const RANKS_AT: [usize; 3] = [0, 1, 2];
 const RANKS_OF_DEGREE: usize = 3;
 const DEGREE_AT: usize = 30;
@@ -48,7 +48,7 @@ fn side(number: u32) -> Option<u8> {
 }
 
 // What a report of n taps says: each of its numbers is read.
-fn judgement(report: [u32; REPORT], n: usize) -> Judgement {
+fn judgement(report: &[u32], n: usize) -> Judgement {
     Judgement {
         ranks: std::array::from_fn(|d| RANKS_AT.map(|i| report[RANKS_OF_DEGREE * d + i] as usize)),
         degree: degree(report[DEGREE_AT], n),
@@ -59,16 +59,15 @@ fn judgement(report: [u32; REPORT], n: usize) -> Judgement {
     }
 }
 
-// Judge, lent a report of numbers that it does not answer, between two others that stay as they are.
+// Judge: what the report says where it is accepted.
 pub fn judge(
     filter: Filter,
     workspace: &mut [u64],
     one: &mut [u8],
     zero: &mut [u8],
     kept: &mut [u8],
+    report: &mut [u32],
 ) -> Result<Judgement, u8> {
-    let unwritten: [u32; REPORT] = std::array::from_fn(|i| 0xdead_beef - i as u32);
-    let mut reports = [unwritten; 3];
     let status = unsafe {
         ekthavrul_judge(
             filter.set.as_ptr(),
@@ -84,10 +83,9 @@ pub fn judge(
             zero.len(),
             kept.as_mut_ptr(),
             kept.len(),
-            reports.as_mut_ptr().add(1),
+            report.as_mut_ptr(),
+            report.len(),
         )
     };
-    let [before, report, behind] = reports;
-    assert_eq!([before, behind], [unwritten; 2], "Judge wrote beside the report");
-    crate::outcome(status, unwritten, report).map(|report| judgement(report, filter.n))
+    crate::outcome(status, (), ()).map(|()| judgement(report, filter.n))
 }

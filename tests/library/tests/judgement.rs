@@ -126,8 +126,8 @@ fn filters_of_every_n_whose_own_degrees_are_known() {
 const WORKSPACE_FAULTS: [Fault<Asked>; 3] =
     [|call| call.own.workspace = 8191, |call| call.own.workspace = 8193, |call| call.own.workspace = 0];
 
-// What Judge alone checks: the lengths of the witness buffers and of the mask of the kept points.
-const JUDGE_FAULTS: [Fault<Asked>; 10] = [
+// What Judge alone checks: the lengths of the witness buffers, of the mask of the kept points and of the report.
+const JUDGE_FAULTS: [Fault<Asked>; 13] = [
     |call| call.own.witnesses[0] = 511,
     |call| call.own.witnesses[0] = 513,
     |call| call.own.witnesses[1] = 511,
@@ -138,6 +138,9 @@ const JUDGE_FAULTS: [Fault<Asked>; 10] = [
     |call| call.own.kept = 0,
     |call| call.own.kept = 1,
     |call| call.own.kept = 1024,
+    |call| call.own.report = 35,
+    |call| call.own.report = 37,
+    |call| call.own.report = 0,
 ];
 
 #[test]
@@ -145,9 +148,20 @@ fn every_refusal_of_judge_and_every_pair_of_them_in_order() {
     let faults = [&WORKSPACE_FAULTS[..], &JUDGE_FAULTS].concat();
     let numbers = lend_faults(12, Asked::good, &faults, |random, call| {
         let ([one, zero], own) = (call.own.witnesses, &call.own);
-        judge(random, call.filter(), [own.workspace, one, zero, own.kept]).map(|_| ())
+        judge(random, call.filter(), [own.workspace, one, zero, own.kept, own.report]).map(|_| ())
     });
     assert_eq!(numbers, [0, 1, 4, 8]);
+}
+
+#[test]
+fn a_report_of_any_other_length_is_refused_by_1() {
+    let (mut random, set, table) = (Random(17), mask_of(2, |_| true), mask_of(2, |a| a == 3));
+    for (n, length) in pairs(&[2, 10], &(0..=73).collect::<Vec<usize>>()) {
+        let lengths = [8192, 512, 512, 512, length];
+        let number = judge(&mut random, Filter { n, set: &set, table: &table }, lengths).err();
+        let wanted = if length == 36 { (n == 10).then_some(4) } else { Some(1) };
+        assert_eq!(number, wanted, "n = {n}, a report of {length} numbers");
+    }
 }
 
 #[test]
@@ -163,16 +177,18 @@ fn every_refusal_of_certify_and_every_pair_of_them_in_order() {
 #[test]
 fn nothing_outside_the_lent_buffers_is_written() {
     let mut random = Random(14);
-    for (n, kind) in pairs(&[1, 2, 3, 4, 5, 6, 7, 8, 9], &[0, NO_POINT]) {
+    for (n, (kind, length)) in pairs(&[1, 2, 3, 4, 5, 6, 7, 8, 9], &pairs(&[0, NO_POINT], &[35, 36, 37])) {
         let (set, table) = (random.set(n, kind), random.table(n, 0));
         let filter = Filter { n, set: &set, table: &table };
         let words = [8192, 4096].map(|length| random.words(MARGIN + length + MARGIN));
         let bytes = [512; 3].map(|length| random.bytes(MARGIN + length + MARGIN));
-        let ([mut workspace, mut certificate], mut exit) = (words.clone(), bytes.clone());
+        let numbers = random.numbers(MARGIN + length + MARGIN);
+        let ([mut workspace, mut certificate], mut exit, mut report) = (words.clone(), bytes.clone(), numbers.clone());
         let [one, zero, kept] = exit.each_mut().map(|buffer| middle(buffer));
-        let judged = library::judge(filter, middle(&mut workspace), one, zero, kept);
-        assert!(judged.is_ok() && margins_stay(&words[0], &workspace));
+        let judged = library::judge(filter, middle(&mut workspace), one, zero, kept, middle(&mut report));
+        assert!(judged.is_ok() == (length == 36) && margins_stay(&words[0], &workspace));
         assert!(bytes.iter().zip(&exit).all(|(entry, exit)| margins_stay(entry, exit)));
+        assert!(margins_stay(&numbers, &report));
         let certified = library::certify(filter, 1, 0, middle(&mut workspace), middle(&mut certificate));
         assert!(certified.is_ok() && margins_stay(&words[0], &workspace) && margins_stay(&words[1], &certificate));
     }

@@ -92,7 +92,7 @@ fn of_all_points_those_of_weight_up_to_the_degree_are_kept() {
 fn judged(filter: Filter, byte: u8) -> (Option<usize>, [Vec<u8>; 3]) {
     let mut masks = [(); 3].map(|_| vec![byte; 512]);
     let [one, zero, kept] = &mut masks;
-    let found = library::judge(filter, &mut [0; 8192], one, zero, kept).expect("accepted");
+    let found = library::judge(filter, &mut [0; 8192], one, zero, kept, &mut [0; 36]).expect("accepted");
     (found.degree, masks)
 }
 

@@ -68,7 +68,8 @@ fn check_tables(n: usize, points: &[usize], mark: usize, step: usize) {
         let mut table = vec![0; 512];
         points.iter().enumerate().for_each(|(i, a)| table[*a] = (bits >> i & 1) as u8);
         let filter = Filter { n, set: &set, table: &table };
-        let judged = library::judge(filter, &mut [0; 8192], &mut [0; 512], &mut [0; 512], &mut [0; 512]);
+        let [mut one, mut zero, mut kept] = [[0; 512]; 3];
+        let judged = library::judge(filter, &mut [0; 8192], &mut one, &mut zero, &mut kept, &mut [0; 36]);
         let found = judged.expect("accepted");
         let constant = bits == 0 || bits + 1 == 1 << points.len();
         let wanted = [mark, usize::from(!constant)].map(Some);

@@ -11,9 +11,9 @@ pub struct Degrees {
 
 // The degree of the table on the slice, and the time that Judge took.
 pub fn degree(slice: &Slice, table: &[u8]) -> (usize, Duration) {
-    let (mut workspace, [mut one, mut zero, mut kept]) = ([0; 8192], [[0; 512]; 3]);
+    let (mut workspace, [mut one, mut zero, mut kept], mut report) = ([0; 8192], [[0; 512]; 3], [0; 36]);
     let start = Instant::now();
-    let judged = library::judge(slice.filter(table), &mut workspace, &mut one, &mut zero, &mut kept);
+    let judged = library::judge(slice.filter(table), &mut workspace, &mut one, &mut zero, &mut kept, &mut report);
     (judged.expect("accepted").degree.expect("a slice has a point"), start.elapsed())
 }
 

@@ -58,7 +58,8 @@ impl Slice {
     // The mark, the bound for sets, which Judge of the proved library answers with every table.
     pub fn mark(&self) -> usize {
         let [mut one, mut zero, mut kept] = [[0; 512]; 3];
-        let judged = library::judge(self.filter(&[0; 512]), &mut [0; 8192], &mut one, &mut zero, &mut kept);
+        let (filter, report) = (self.filter(&[0; 512]), &mut [0; 36]);
+        let judged = library::judge(filter, &mut [0; 8192], &mut one, &mut zero, &mut kept, report);
         judged.expect("accepted").mark.expect("a slice has a point")
     }
 }
