@@ -15,6 +15,7 @@ pub mod Empty
 pub mod Kept
 pub mod Mark
 pub mod NormalFormWords
+pub mod Report
 pub mod Sides
 pub mod Unreached
 pub mod Weight

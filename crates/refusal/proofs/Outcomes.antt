@@ -6,13 +6,16 @@
 --   check-passed      an outcome that accepts after checks has passed the first of them
 --   mapped-refused    an outcome that refuses with other values refuses
 --   mapped-accepted   one that accepts with other values accepts what they are made of
+--   status-refused    a status other than 0 is the number of a refusal
+--   status-accepted   0 is that of an acceptance, where no refusal has it
 use mathlib.Core.Path.{_≡_, refl, sym, ap}
-use mathlib.Core.Logic.{_≢_}
+use mathlib.Core.Logic.{_↔_, _≢_}
 use mathlib.Core.Bool.{Bool, true, false}
 use mathlib.Core.List.{List, [], _∷_}
 use Prim.Native.Nat.{ℕ}
 use native.Mathlib.Omega.{arith}
 use Rattle.refusal.specs.Outcome.{Outcome, refused, accepted, Check, _otherwise_, checked, mapped, leftBy}
+use Rattle.refusal.specs.Status.{statusOf}
 use Rattle.refusal.specs.Refusal.{numberOf}
 use Rattle.refusal.specs.declared.Refusal.{Refusal}
 use Rattle.refusal.specs.declared.Refusal.the-variants.{Length, FileEnds, NumberForm, Taps, Range, Surplus, Bytes, ZeroPolynomial, Degree, Side, RanksDiffer, ShortOutput}
@@ -62,3 +65,13 @@ module _ {A : Type 0} {B : Type 0} (f : A → B) where
   pub mapped-accepted : (o : Outcome A) {b : B} → mapped f o ≡ accepted b → (a : A) × (o ≡ accepted a) × (f a ≡ b)
   mapped-accepted (refused k) e = absurd (not-both e)
   mapped-accepted (accepted a) e = (a, refl, cc e)
+
+-- a status other than 0 is the number of a refusal
+pub status-refused : {A : Type 0} (o : Outcome A) (k : ℕ) → k ≢ 0 → (statusOf o ≡ k) ↔ (o ≡ refused k)
+status-refused (refused j) k h = (λ e. ap refused e, λ e. cc e)
+status-refused (accepted a) k h = (λ e. absurd (h (sym e)), λ e. absurd (not-both (sym e)))
+
+-- 0 is the status of an acceptance, where no refusal has it
+pub status-accepted : {A : Type 0} (o : Outcome A) → o ≢ refused 0 → (statusOf o ≡ 0) ↔ ((a : A) × (o ≡ accepted a))
+status-accepted (refused k) h = (λ e. absurd (h (ap refused e)), λ x. absurd (not-both (x .1)))
+status-accepted (accepted a) h = (λ e. (a, refl), λ x. refl)
