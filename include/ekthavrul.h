@@ -23,6 +23,9 @@
  * stands above its declaration, where EKTHAVRUL_REFUSED_ is left out of the names. A refusal leaves all that is lent as it
  * was; RANKS_DIFFER alone clears the workspace. An accepted operation leaves the workspace all zero; what stands in it
  * before does not matter.
+ *
+ * The library holds no state: threads may call it side by side, each with buffers of its own. It is for Linux on x86-64,
+ * and calls memcpy and memset.
  */
 #ifndef EKTHAVRUL_H
 #define EKTHAVRUL_H
@@ -49,7 +52,8 @@ enum {
     EKTHAVRUL_CERTIFICATE = 4096, /* a certificate, in numbers of 64 bits */
     EKTHAVRUL_ROW_WORDS = 8,      /* a point's row of a certificate, in numbers of 64 bits */
     EKTHAVRUL_REPORT = 36,        /* the report of Judge, in numbers of 32 bits */
-    EKTHAVRUL_FILE_MAX = 2053     /* no filter file that is read or written is longer, in bytes */
+    EKTHAVRUL_FILE_MAX = 2053,    /* no filter file that is read or written is longer, in bytes */
+    EKTHAVRUL_STACK = 8192        /* no call takes more stack, in bytes; measured, and not proved */
 };
 
 /*

@@ -22,15 +22,15 @@ static const char help[] = "usage: judge FILE\n"
 /* What a refusal of Read says. */
 static const char *words_of(uint8_t status) {
     switch (status) {
-    case EKTHAVRUL_FILE_ENDS:
+    case EKTHAVRUL_REFUSED_FILE_ENDS:
         return "the file ends before or inside a number";
-    case EKTHAVRUL_NUMBER_FORM:
+    case EKTHAVRUL_REFUSED_NUMBER_FORM:
         return "the second byte of a number has the top bit set, or is 0";
-    case EKTHAVRUL_TAPS:
+    case EKTHAVRUL_REFUSED_TAPS:
         return "n is not from 1 to 9";
-    case EKTHAVRUL_RANGE:
+    case EKTHAVRUL_REFUSED_RANGE:
         return "a count over N, a difference of 0, or a point of N or more";
-    case EKTHAVRUL_SURPLUS:
+    case EKTHAVRUL_REFUSED_SURPLUS:
         return "bytes remain after the last number";
     default:
         return "see ekthavrul.h";
