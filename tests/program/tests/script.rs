@@ -92,6 +92,7 @@ fn wrong_usage_has_status_2_and_help_has_0() {
     let folder = Folder::new("usage");
     let (status, help, said) = answer(&folder.0, &["--help"], &[]);
     assert_eq!((status, help.lines().next(), &said[..]), (Some(0), Some("usage: sheet [FILE]"), ""));
+    check_failed(shell(&folder, "$1 --help > /dev/full"), "the help could not be written");
     for words in [&["a", "b"][..], &["--halp"], &["-x"]] {
         assert_eq!(answer(&folder.0, words, &PRINTED_FILE), (Some(2), String::new(), help.clone()), "{words:?}");
     }
@@ -106,7 +107,7 @@ fn check_failed((status, printed, said): Answer, sentence: &str) {
 #[test]
 fn what_can_not_be_read_has_status_4_and_prints_nothing() {
     let folder = Folder::new("unread");
-    for name in ["none", ".", "/proc/self/mem"] {
+    for name in ["none", ".", "", "/proc/self/mem"] {
         check_failed(answer(&folder.0, &[name], &PRINTED_FILE), "the input could not be read");
     }
     check_failed(shell(&folder, "$1 < /"), "the input could not be read");
@@ -166,14 +167,20 @@ fn the_first_run_says_how_far_it_is_and_a_program_that_is_gone_is_built_again() 
     }
     File::create(folder.0.join("target/bin/sheet")).expect("an empty file in its place");
     assert_eq!(built_answer(&folder, &path()).0, Some(3));
+    folder.write("target/bin/sheet", b"");
+    let said = "sheet: the program printed no sheet\n".to_string();
+    assert_eq!(built_answer(&folder, &path()), (Some(1), String::new(), said), "an empty program");
 }
 
 #[test]
 fn a_program_that_can_not_be_built_has_status_1_and_is_not_left_behind() {
     let folder = small_repository("unproved", "another text\\n");
-    let (status, printed, said) = built_answer(&folder, &path());
-    assert_eq!((status, &printed[..]), (Some(1), ""), "{said}");
-    assert!(said.contains("target/log/sheet-build.log has all that rt said"), "{said}");
+    for _ in 0..2 {
+        let (status, printed, said) = built_answer(&folder, &path());
+        assert_eq!((status, &printed[..]), (Some(1), ""), "{said}");
+        assert!(said.contains("target/log/sheet-build.log has all that rt said"), "{said}");
+        assert!(!folder.0.join("target/bin/sheet").exists(), "{said}");
+    }
 }
 
 // The first file of this name on the search path.
