@@ -1,4 +1,4 @@
-// Restricted algebraic immunity: definitions and laws, and the two types and the length that they share with the code.
+// Restricted algebraic immunity: definitions and laws, the two types that they share with the code, and a length.
 // docs/SPECIFICATION.md, 'Words', 'Judge', 'Witness', 'Certificate' and 'Check'.
 
 // The numbers of a certificate: a row of eight for each of 512 points.
