@@ -53,7 +53,7 @@ enum {
     EKTHAVRUL_ROW_WORDS = 8,      /* a point's row of a certificate, in numbers of 64 bits */
     EKTHAVRUL_REPORT = 36,        /* the report of Judge, in numbers of 32 bits */
     EKTHAVRUL_FILE_MAX = 2053,    /* no filter file that is read or written is longer, in bytes */
-    EKTHAVRUL_STACK = 8192        /* no call takes more stack, in bytes; measured, and not proved */
+    EKTHAVRUL_STACK = 8192        /* no call takes more stack, in bytes: measured, not proved */
 };
 
 /*
@@ -61,9 +61,8 @@ enum {
  * EKTHAVRUL_RANKS_OF_DEGREE * d behind those of degree 0, so that the rank of part 1 at degree d is
  * report[EKTHAVRUL_RANKS_OF_DEGREE * d + EKTHAVRUL_RANK_ONE_AT].
  * Later versions may append numbers: EKTHAVRUL_REPORT and EKTHAVRUL_VERSION_MINOR grow then, and no index changes. All
- * EKTHAVRUL_REPORT numbers are written, and no other length is accepted: a program compiled with an older header of the
- * same MAJOR than that of the library lends too few, and is refused by EKTHAVRUL_REFUSED_LENGTH; its memory stays as it
- * was.
+ * EKTHAVRUL_REPORT numbers are written, and no other length is accepted: a program that was compiled before numbers were
+ * appended lends too few, and is refused by EKTHAVRUL_REFUSED_LENGTH; its memory stays as it was.
  */
 enum {
     EKTHAVRUL_RANK_SET_AT = 0,     /* the rank of S at degree 0 */

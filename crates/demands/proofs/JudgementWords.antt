@@ -9,7 +9,6 @@ use Rattle.order.specs.BuiltIn.{graded}
 use Rattle.judge.proofs.Passed.{found-accepts}
 use Rattle.certify.specs.Certify.{clearedUnless}
 use Rattle.demands.specs.JudgementWords.{JudgementWords}
-use Rattle.demands.proofs.Demand3.{demand3}
 use Rattle.demands.proofs.Refusals.{judge-refuses, certify-refuses}
 use Rattle.demands.proofs.RankWords.{rank-words}
 use Rattle.demands.proofs.JudgeWords.{judge-words}
@@ -26,7 +25,7 @@ judgement-words = record {
   certify-refuses = certify-refuses;
   certify = certify-words;
   hand-over = hand-over-words;
-  report-says = λ n s f ws ws′ w w′ m m′ a r h e. let y = found-accepts graded n s f ws ws′ w w′ m m′ a h _ _ e refl in (demand3 .every n s f _ y, judge-words n s f _ y);
+  report-accepted = λ n s f ws ws′ w w′ m m′ a r h e. found-accepts graded n s f ws ws′ w w′ m m′ a h _ _ e refl;
   rank-answers = λ o ws ws′ m m′ a k h. (λ e. sym (h .answers) ∙ e, λ e. h .answers ∙ e);
   judge-answers = λ o ws ws′ w w′ m m′ a k h. (λ e. sym (h .answers) ∙ e, λ e. h .answers ∙ e);
   certify-answers = λ o ws ws′ c c′ a k h. (λ e. sym (h .answers) ∙ e, λ e. h .answers ∙ e);

@@ -57,7 +57,7 @@ use Rattle.hand_over.specs.HandOver.{HandOverContract}
 use Rattle.text.specs.Text.{ascii, newline, decimal, field, labelled, joined, fields}
 use Rattle.sheet_lines.specs.Lines.{rankLines, sumLines, additionsLine}
 use Rattle.sheet_text.specs.Sheet.{sideSums, sums, judgementSheet, sheet}
-use Rattle.demands.specs.Demands.{RankAccepts, Judgement3}
+use Rattle.demands.specs.Demands.{RankAccepts}
 
 -- one number is the rank of both
 abbrev pub SameRank : ℕ → ℕ → List ℕ → List ℕ → Type 0
@@ -234,10 +234,10 @@ pub record JudgementWords : Type 0 where
   pub certify : (n : ℕ) (s f : List ℕ) (side d : ℕ) (c : List ℕ) → CertifyAccepts graded n s f side d c → CertifyWords n s f side d c
   -- what Hand over hands back is as its sentences say
   pub hand-over : (n side : ℕ) (w : Sides (List ℕ)) (handed : List ℕ) → HandOverContract n side w handed → HandOverWords n side w handed
-  -- every report of Judge, lent buffers of any lengths, says what demand 3 and these sentences say of a judgement, with the ranks that are answered beside it and what is left in the buffers
-  pub report-says : (n : ℕ) (s f ws ws′ : List ℕ) (w w′ : Sides (List ℕ)) (m m′ : List ℕ) (a : JudgeAnswer) (r : Report)
+  -- every report of Judge, lent buffers of any lengths, is with the ranks that are answered beside it and with what is left in the buffers a judgement that Judge accepts: all that the demands and the sentences say of such, it says
+  pub report-accepted : (n : ℕ) (s f ws ws′ : List ℕ) (w w′ : Sides (List ℕ)) (m m′ : List ℕ) (a : JudgeAnswer) (r : Report)
       → JudgeContract (judgeOutcome graded s f n (length ws) (length (w .one)) (length (w .zero)) (length m)) ws ws′ w w′ m m′ a → a .finding ≡ Judged r
-      → Judgement3 n s f (judgementOf r (a .ranks) w′ m′) × JudgeWords n s f (judgementOf r (a .ranks) w′ m′)
+      → JudgeAccepts graded n s f (judgementOf r (a .ranks) w′ m′)
   -- an answer is a refusal exactly when the outcome is, by the same number: of Rank,
   pub rank-answers : (o : Outcome Ranking) (ws ws′ m m′ : List ℕ) (a : RankAnswer) (k : ℕ) → RankContract o ws ws′ m m′ a → (rankOutcomeOf a m′ ≡ refused k) ↔ (o ≡ refused k)
   -- of Judge,

@@ -4,7 +4,7 @@
 --   numbers rs k side a ks m   the report with the ranks rs, the degree k, the side, a additions, the sides' own degrees ks and the mark m
 --   reportOf j                 the report of a judgement
 --   StandsFor x i m            the number m stands for x: it is i exactly where x is none, and else what x is
---   Reportable x               what was found fits a report: each degree and the mark is at most 9
+--   Reportable x               the numbers of what was found fit in 32 bits: degree and mark are at most 9, that for a side's own degree at most 10
 --   Reports answer ns ns′ r    the status r of an answer of Judge, and a report, ns at entry and ns′ at exit, that holds what was answered
 --   reportedOutcome l o        the outcome o of Judge where a report of l numbers is lent beside its buffers: 1 unless there are 36
 use mathlib.Core.Path.{_≡_}
