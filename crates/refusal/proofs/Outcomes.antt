@@ -18,7 +18,7 @@ use Rattle.refusal.specs.Outcome.{Outcome, refused, accepted, Check, _ot
 use Rattle.refusal.specs.Status.{statusOf}
 use Rattle.refusal.specs.Refusal.{numberOf}
 use Rattle.refusal.specs.declared.Refusal.{Refusal}
-use Rattle.refusal.specs.declared.Refusal.the-variants.{Length, FileEnds, NumberForm, Taps, Range, Surplus, Bytes, ZeroPolynomial, Degree, Side, RanksDiffer, ShortOutput}
+use Rattle.refusal.specs.declared.Refusal.the-variants.{Length, FileEnds, NumberForm, Taps, Range, Surplus, Bytes, ZeroPolynomial, Degree, Side, RanksDiffer, ShortOutput, Wiring}
 
 -- an outcome is not both refused and accepted
 pub not-both : {A : Type 0} {k : ℕ} {a : A} → refused k ≡ accepted a → ⊥
@@ -42,6 +42,7 @@ number-not-6 Degree e = omega arith
 number-not-6 Side e = omega arith
 number-not-6 RanksDiffer e = omega arith
 number-not-6 ShortOutput e = omega arith
+number-not-6 Wiring e = omega arith
 
 -- so checks never refuse by it
 pub checked-not-6 : {A : Type 0} (cs : List Check) (o : Outcome A) → o ≢ refused 6 → checked cs o ≢ refused 6

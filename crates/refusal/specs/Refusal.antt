@@ -2,7 +2,7 @@
 --   numberOf r   the number of the refusal r
 use Prim.Native.Nat.{ℕ}
 use Rattle.refusal.specs.declared.Refusal.{Refusal}
-use Rattle.refusal.specs.declared.Refusal.the-variants.{Length, FileEnds, NumberForm, Taps, Range, Surplus, Bytes, ZeroPolynomial, Degree, Side, RanksDiffer, ShortOutput}
+use Rattle.refusal.specs.declared.Refusal.the-variants.{Length, FileEnds, NumberForm, Taps, Range, Surplus, Bytes, ZeroPolynomial, Degree, Side, RanksDiffer, ShortOutput, Wiring}
 
 -- the number of a refusal
 abbrev pub numberOf : Refusal → ℕ
@@ -18,3 +18,4 @@ numberOf Degree = 10
 numberOf Side = 11
 numberOf RanksDiffer = 12
 numberOf ShortOutput = 13
+numberOf Wiring = 14

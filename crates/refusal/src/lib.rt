@@ -29,6 +29,8 @@ pub enum Refusal {
     RanksDiffer,
     // 13: the output is shorter than the file.
     ShortOutput,
+    // 14: the wiring does not have n entries that name each tap once.
+    Wiring,
 }
 
 // The number of a refusal.
@@ -48,5 +50,6 @@ pub fn number(r: Refusal) -> u8
         Refusal::Side => 11,
         Refusal::RanksDiffer => 12,
         Refusal::ShortOutput => 13,
+        Refusal::Wiring => 14,
     }
 }
