@@ -15,14 +15,14 @@ use borrow.Author.Tests.{ltb-true, leb-true, lt-ltb, le-leb, not-false}
 use Rattle.cube.specs.NumberLists.{below, consIf, select, lists, Inside}
 use Rattle.cube.specs.Cube.{size, within, weight}
 use Rattle.cube.specs.Mask.{member, points}
-use Rattle.cube.proofs.Listed.{and-both, lists-member, member-select, Distinct, distinct-select}
-use Rattle.cube.proofs.Masks.{length-from, from-distinct, value-at, member-points}
+use Rattle.cube.proofs.Listed.{and-both, same-test, lists-member, member-select, Distinct, distinct-select}
+use Rattle.cube.proofs.Masks.{length-from, value-at, member-points, points-distinct}
 use Rattle.order.specs.Order.{Graded, isColumn}
 use Rattle.gf2.specs.Vector.{Row, entry, add, total, unit, Zero, OnlyAt, chosen}
 use Rattle.gf2.specs.Elimination.{isZero}
 use Rattle.gf2.specs.Cut.{common}
 use Rattle.gf2.specs.Points.{support}
-use Rattle.gf2.proofs.Bits.{not-one, same-bit, xor-and, xor-comm}
+use Rattle.gf2.proofs.Bits.{not-one, xor-and, xor-comm}
 use Rattle.gf2.proofs.Common.{one-below, common-zero}
 use Rattle.gf2.proofs.Dot.{entry-add, entry-unit-is}
 use Rattle.gf2.proofs.Reducing.{is-zero}
@@ -67,7 +67,7 @@ chosen-select t (x ∷ xs) = go (t x) (chosen-select t xs)
 module _ (b : List ℕ) (v : Row) (wide : length v ≡ 512) where
   -- none but points of the mask is named
   only-checked : isZero (common v (othersRow b)) ≡ onlyAt (points b) v
-  only-checked = same-bit _ _ (
+  only-checked = same-test _ _ (
     λ e. only-says (points b) v .1 (λ q one. member-points b q .1 (not-false (member b q) (sym (other q (subst (λ k. q < k) wide (one-below v q one))) ∙ common-zero v (othersRow b) .0 e q one))),
     λ e. common-zero v (othersRow b) .1 (λ q one. other q (subst (λ k. q < k) wide (one-below v q one)) ∙ ap not (member-points b q .0 (only-says (points b) v .0 e q one))),
   )
@@ -82,7 +82,7 @@ module _ (b : List ℕ) (v : Row) (wide : length v ≡ 512) where
 
     -- they are the ones of the row
     named-listed : (q : ℕ) → lists qs q ≡ entry v q
-    named-listed q = same-bit _ _ (
+    named-listed q = same-test _ _ (
       λ e. member-select (entry v) (points b) q .0 (rw (chosen-select (entry v) (points b)) at (lists-member qs q .0 e)) .0,
       λ one. lists-member qs q .1 (rw (chosen-select (entry v) (points b)) (member-select (entry v) (points b) q .1 (one, only q one))),
     )
@@ -90,7 +90,7 @@ module _ (b : List ℕ) (v : Row) (wide : length v ≡ 512) where
     -- no point is named twice
     named-distinct : Distinct qs
     named-distinct = rw (chosen-select (entry v) (points b))
-        (distinct-select (entry v) (points b) (distinct-select (member b) (below (length b)) (from-distinct 0 (length b))))
+        (distinct-select (entry v) (points b) (points-distinct b))
 
     -- each is below 512
     named-below : Inside 512 qs
@@ -111,7 +111,7 @@ module _ (b : List ℕ) (v : Row) (wide : length v ≡ 512) where
     sums-checked : {o : List ℕ} → Graded o → {n : ℕ} → n ≤ 9 → (d a : ℕ) → a < 512
         → isZero (common (supersetSums (add v (unit a))) (columnsRow n d)) ≡ isZero (add (row o n d a) (total (map (row o n d) qs)))
     unfolding supersetSums total
-    sums-checked {o} g {n} most d a l = same-bit _ _ (
+    sums-checked {o} g {n} most d a l = same-test _ _ (
       λ e. is-zero (total (rows o n d (a ∷ qs))) .1 (monomials .1 (λ u i w.
           sym (sum-over a l u) ∙ not-one _ (λ one. false≢true (sym (common-zero sums (columnsRow n d) .0 e u (at-sum u (near u i) ∙ one)) ∙ column u i w)))),
       λ e. common-zero sums (columnsRow n d) .1 (λ u one. not-one _ (λ column-one.

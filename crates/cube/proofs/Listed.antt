@@ -1,9 +1,14 @@
 -- Numbers that stand in a list, lists with no number twice, and their sizes.
 --   and-both          both of two tests hold
+--   same-test         tests that imply each other are the same
 --   lists-member      the test `lists` says whether a number is a member
 --   not-listed        it fails for other numbers
+--   lists-here        a number that stands at place i stands from there on
+--   lists-later       one that does not stands behind it, or not at all
+--   lists-end         none stands behind the end
 --   member-place      a member has a place
 --   place-member      what has a place is a member
+--   image-at          a list of images holds the image of each member at its place
 --   select-cases      what holds of a list with a first number kept or left out
 --   member-select     the members that a test keeps
 --   select-select     of two tests the second of which is implied by the first, the first decides
@@ -25,14 +30,14 @@
 use mathlib.Core.Path.{_≡_, refl, sym, ap, _∙_}
 use mathlib.Core.Logic.{_↔_, _⊎_, inl, inr}
 use mathlib.Core.Bool.{Bool, true, false, _&&_, _||_, or-true, false≢true, not}
-use mathlib.Core.List.{List, [], _∷_, _++_, append-nil, List·Memᴰ, List·Memᴰ·head, List·Memᴰ·tail, List·Memᴰ·not-nil, List·Memᴰ·cases-cons}
+use mathlib.Core.List.{List, [], _∷_, _++_, map, append-nil, List·Memᴰ, List·Memᴰ·head, List·Memᴰ·tail, List·Memᴰ·not-nil, List·Memᴰ·cases-cons}
 use Prim.Native.Nat.{ℕ, zero, suc, _+_, _≤_, _<_}
 use native.Mathlib.Numerals.{add-one}
 use native.Mathlib.Omega.{arith}
 use lib.Dec.{eqb}
-use lib.ListN.{length, getD, take}
-use lib.Seq.{take-suc}
-use borrow.Author.Tests.{eqb-true, eq-eqb}
+use lib.ListN.{length, getD, take, drop, drop-of-length-le}
+use lib.Seq.{take-suc, drop-cons}
+use borrow.Author.Tests.{eqb-true, eq-eqb, ne-eqb}
 use Rattle.cube.specs.NumberLists.{consIf, select, lists, Inside, isEmpty}
 use Rattle.cube.proofs.Count.{countBelow, count-none, count-more, count-full}
 
@@ -40,6 +45,12 @@ use Rattle.cube.proofs.Count.{countBelow, count-none, count-more, count
 pub and-both : (a b : Bool) → (a && b) ≡ true → (a ≡ true) × (b ≡ true)
 and-both true b e = (refl, e)
 and-both false b e = absurd (false≢true e)
+
+-- tests that imply each other are the same
+pub same-test : (x y : Bool) → ((x ≡ true) ↔ (y ≡ true)) → x ≡ y
+same-test true y h = sym (h .0 refl)
+same-test false true h = h .1 refl
+same-test false false h = refl
 
 -- a list with one number more
 lists-step : (x : ℕ) (xs : List ℕ) (u : ℕ) → ((lists xs u ≡ true) ↔ List·Memᴰ u xs) → (lists (x ∷ xs) u ≡ true) ↔ List·Memᴰ u (x ∷ xs)
@@ -68,6 +79,22 @@ not-listed xs u n = go (lists xs u) refl
     go true e = absurd (n (lists-member xs u .0 e))
     go false e = refl
 
+module _ (xs : List ℕ) (i u : ℕ) where
+  -- a number that stands at place i stands from there on
+  pub lists-here : i < length xs → getD xs i 0 ≡ u → lists (drop i xs) u ≡ true
+  unfolding lists
+  lists-here l e = rw (drop-cons xs i 0 l, eq-eqb (getD xs i 0) u e)
+
+  -- one that does not stands behind it, or not at all
+  pub lists-later : i < length xs → (getD xs i 0 ≡ u → ⊥) → lists (drop i xs) u ≡ lists (drop (i + 1) xs) u
+  unfolding lists
+  lists-later l e = rw (drop-cons xs i 0 l, ne-eqb (getD xs i 0) u e, add-one)
+
+  -- none stands behind the end
+  pub lists-end : length xs ≤ i → lists (drop i xs) u ≡ false
+  unfolding lists
+  lists-end l = rw (drop-of-length-le xs l)
+
 -- a member has a place
 pub member-place : {u : ℕ} {xs : List ℕ} → List·Memᴰ u xs → (i : ℕ) × (i < length xs) × (getD xs i 0 ≡ u)
 member-place (List·Memᴰ·head e) = (0, omega arith, sym e)
@@ -78,6 +105,12 @@ pub place-member : (xs : List ℕ) (i : ℕ) → i < length xs → List·Memᴰ 
 place-member [] i h = absurd (omega arith)
 place-member (x ∷ xs) zero h = List·Memᴰ·head refl
 place-member (x ∷ xs) (suc i) h = List·Memᴰ·tail (place-member xs i (omega arith))
+
+-- a list of images holds the image of each member at its place
+pub image-at : {B : Type 0} (f : ℕ → B) (xs : List ℕ) (i : ℕ) (d : B) → i < length xs → getD (map f xs) i d ≡ f (getD xs i 0)
+image-at f [] i d l = absurd (omega arith)
+image-at f (x ∷ xs) zero d l = refl
+image-at f (x ∷ xs) (suc i) d l = image-at f xs i d (omega arith)
 
 -- what holds of a list with a first number kept or left out
 pub select-cases : (P : List ℕ → Type 0) (t : ℕ → Bool) (x : ℕ) (xs : List ℕ)

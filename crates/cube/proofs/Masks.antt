@@ -21,6 +21,7 @@
 --   member-byte     a bit as a byte, read back
 --   byte-member     a byte that is 0 or 1 is that of its bit
 --   points-inside   those of a well formed mask are points of n taps
+--   points-distinct none of them stands twice
 --   has-point-says  the test that a mask has points says that there is one
 --   point-or-none   there is one, or the mask has none
 --   mask-member     a mask marks what passes its test
@@ -42,7 +43,7 @@ use Rattle.cube.specs.NumberLists.{upFrom, below, consIf, select, lists,
 use Rattle.cube.specs.Cube.{size}
 use Rattle.cube.specs.Mask.{bitsThenZeros, wellFormed, WellFormed, member, marked, points, HasPoint, byte, mask}
 use Rattle.cube.proofs.Count.{countBelow}
-use Rattle.cube.proofs.Listed.{and-both, lists-member, not-listed, member-select, select-snoc, select-fewer, Distinct, some-member}
+use Rattle.cube.proofs.Listed.{and-both, lists-member, not-listed, member-select, select-snoc, select-fewer, Distinct, distinct-select, some-member}
 
 -- the numbers from one on
 pub member-from : (u k v : ℕ) → List·Memᴰ v (upFrom u k) ↔ ((u ≤ v) × (v < u + k))
@@ -211,6 +212,10 @@ points-inside n b w a m = elim (decLt a (size n)) [
   | yes l ↦ l
   | no l ↦ absurd (omega (arith, eqb-true (getD b a 0) 1 (member-points b a .0 m), byte-zero (size n) b a w (omega arith)))
 ]
+
+-- none of them stands twice
+pub points-distinct : (b : List ℕ) → Distinct (points b)
+points-distinct b = distinct-select (member b) (below (length b)) (from-distinct 0 (length b))
 
 -- a list with a member is not empty
 member-some : (xs : List ℕ) (a : ℕ) → List·Memᴰ a xs → isEmpty xs ≡ false
