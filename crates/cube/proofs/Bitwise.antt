@@ -17,7 +17,7 @@ use mathlib.Core.Path.{_≡_, refl, sym, ap, _∙_}
 use Prim.Native.Nat.{ℕ, zero, suc, _+_, _-_, _*_, _/_, _%_, _^_, _≤_, _<_, min, max}
 use native.Mathlib.Omega.{arith}
 use native.Mathlib.Decide.{decLt}
-use native.Mathlib.Nat.{le-refl, mod-eq-of-lt, div-eq-of-lt, mul-assoc, pow-suc}
+use native.Mathlib.Nat.{le-refl, mod-eq-of-lt, div-eq-of-lt, mul-assoc}
 use lib.Arith.{bin-ind}
 use lib.Bits.{bitAnd, bitOr, and-step, or-step, and-shr, or-shr, and-comm, shifted-even, or-shifted}
 use lib.Count.{ones, ones-step, ones-cat}

@@ -22,15 +22,17 @@
 --   Distinct xs       no number stands twice in the list
 --   distinct-places   a list whose places hold different numbers is distinct
 --   distinct-select   what a test keeps of a distinct list is distinct
+--   distinct-images   the images of a distinct list are distinct where each is brought back
 --   count-listed      a distinct list of numbers below m is as long as the count of its numbers
+--   length-same       distinct lists of the same numbers are equally long
 --   member-all        m distinct numbers below m are all of them
 --   some-member       a list that is not empty has a member
 --   empty-nil         a list that is empty is []
 --   some-length       a list is not empty just if its length is at least 1
-use mathlib.Core.Path.{_≡_, refl, sym, ap, _∙_}
+use mathlib.Core.Path.{_≡_, refl, sym, ap, subst, _∙_}
 use mathlib.Core.Logic.{_↔_, _⊎_, inl, inr}
 use mathlib.Core.Bool.{Bool, true, false, _&&_, _||_, or-true, false≢true, not}
-use mathlib.Core.List.{List, [], _∷_, _++_, map, append-nil, List·Memᴰ, List·Memᴰ·head, List·Memᴰ·tail, List·Memᴰ·not-nil, List·Memᴰ·cases-cons}
+use mathlib.Core.List.{List, [], _∷_, _++_, map, append-nil, List·Memᴰ, List·Memᴰ·head, List·Memᴰ·tail, List·Memᴰ·not-nil, List·Memᴰ·cases-cons, Memᴰ·of-map}
 use Prim.Native.Nat.{ℕ, zero, suc, _+_, _≤_, _<_}
 use native.Mathlib.Numerals.{add-one}
 use native.Mathlib.Omega.{arith}
@@ -39,7 +41,7 @@ use lib.ListN.{length, getD, take, drop, drop-of-length-le}
 use lib.Seq.{take-suc, drop-cons}
 use borrow.Author.Tests.{eqb-true, eq-eqb, ne-eqb}
 use Rattle.cube.specs.NumberLists.{consIf, select, lists, Inside, isEmpty}
-use Rattle.cube.proofs.Count.{countBelow, count-none, count-more, count-full}
+use Rattle.cube.proofs.Count.{countBelow, count-none, count-same, count-more, count-full}
 
 -- both of two tests hold
 pub and-both : (a b : Bool) → (a && b) ≡ true → (a ≡ true) × (b ≡ true)
@@ -242,12 +244,33 @@ distinct-select t (x ∷ xs) h =
     let rest : Distinct (select t xs) = distinct-select t xs (h .1) in
     select-cases Distinct t x xs (λ e. (λ m. h .0 (member-select t xs x .0 m .1), rest)) (λ e. rest)
 
+-- the images of a distinct list are distinct where each is brought back
+pub distinct-images : (f g : ℕ → ℕ) (xs : List ℕ) → ((u : ℕ) → List·Memᴰ u xs → g (f u) ≡ u) → Distinct xs → Distinct (map f xs)
+distinct-images f g [] back h = tt
+distinct-images f g (x ∷ xs) back h = (
+  λ i.
+      let v = Memᴰ·of-map f xs i in
+      let e : v .0 ≡ x = sym (back (v .0) (List·Memᴰ·tail (v .1))) ∙ ap g (v .2) ∙ back x (List·Memᴰ·head refl) in
+      h .0 (subst (λ u. List·Memᴰ u xs) e (v .1)),
+  distinct-images f g xs (λ u i. back u (List·Memᴰ·tail i)) (h .1),
+)
+
 -- a distinct list of numbers below m is as long as the count of its numbers
 pub count-listed : (m : ℕ) (xs : List ℕ) → Distinct xs → Inside m xs → countBelow m (lists xs) ≡ length xs
 unfolding lists
 count-listed m [] h l = count-none m (lists []) (λ u. refl)
 count-listed m (x ∷ xs) h l =
     count-more m x (lists xs) (l x (List·Memᴰ·head refl)) (not-listed xs x (h .0)) ∙ ap suc (count-listed m xs (h .1) (λ u i. l u (List·Memᴰ·tail i)))
+
+-- distinct lists of the same numbers are equally long
+pub length-same : (m : ℕ) (xs ys : List ℕ) → Distinct xs → Distinct ys → Inside m ys → ((u : ℕ) → List·Memᴰ u xs ↔ List·Memᴰ u ys) → length xs ≡ length ys
+length-same m xs ys h k l same =
+    sym (count-listed m xs h (λ u i. l u (same u .0 i)))
+    ∙ count-same m (lists xs) (lists ys) (λ u i. same-test (lists xs u) (lists ys u) (
+      λ e. lists-member ys u .1 (same u .0 (lists-member xs u .0 e)),
+      λ e. lists-member xs u .1 (same u .1 (lists-member ys u .0 e)),
+    ))
+    ∙ count-listed m ys k l
 
 -- m distinct numbers below m are all of them
 pub member-all : (m : ℕ) (xs : List ℕ) → length xs ≡ m → Distinct xs → Inside m xs → (u : ℕ) → u < m → List·Memᴰ u xs

@@ -1,0 +1,3 @@
+-- Laws of what Rearrange answers and leaves.
+pub mod Answers
+pub mod Gathered

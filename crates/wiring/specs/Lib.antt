@@ -1,0 +1,2 @@
+-- Wirings.
+pub mod Wiring
