@@ -13,6 +13,7 @@ pub mod NewPoint
 pub mod NoPoint
 pub mod PartPoints
 pub mod Reported
+pub mod SameJudged
 pub mod SideDegrees
 pub mod Witnesses
 pub mod WitnessBuffers

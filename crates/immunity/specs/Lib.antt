@@ -7,4 +7,5 @@ pub mod FirstDegree
 pub mod Judgement
 pub mod Mark
 pub mod Ranks
+pub mod SameJudged
 pub mod Witness
