@@ -91,5 +91,6 @@ demand1 = record {
     h .leaves-witnesses ∙ ap (λ x. leftBy x w (λ j. j .witnesses)) e,
     h .leaves-kept ∙ ap (λ x. leftBy x m (λ j. j .kept)) e,
   );
+  rearrange-keeps = λ o s s′ f f′ r k h e. (h .leaves-set ∙ ap (λ x. leftBy x s (λ y. y .set)) e, h .leaves-table ∙ ap (λ x. leftBy x f (λ y. y .table)) e);
   certify-keeps = certify-keeps;
 }

@@ -53,10 +53,16 @@ use Rattle.checker.specs.declared.CheckAnswer.{CheckAnswer}
 use Rattle.checker.specs.declared.CheckAnswer.the-variants as answer
 use Rattle.checker.specs.Check.{checkInputs, checkOutcome, outcomeOf, CheckContract, CheckAccepts}
 use Rattle.checker.proofs.Checked.{check-passes, check-says}
+use Rattle.rearrange.specs.declared.RearrangeAnswer.{RearrangeAnswer}
+use Rattle.rearrange.specs.declared.RearrangeAnswer.the-variants as rearranged
+use Rattle.wiring.specs.Wiring.{Wiring, rewired}
+use Rattle.rearrange.specs.Rearrange.{rearrangeChecks, rearrangeOutcome, RearrangeContract}
+use Rattle.wiring.proofs.Rewired.{rewired-long, rewired-formed}
 use Rattle.text.specs.Text.{Text, ascii, digits, decimal, newline, field, labelled, joined}
 use Rattle.sheet_lines.specs.Lines.{rankLine, sidesLine, additionsLine}
 use Rattle.sheet_text.specs.Sheet.{judgementSheet, sheetOf, sheet}
 use Rattle.sheet_text.proofs.SheetAccepts.{no-point-lines}
+use Rattle.demands.proofs.Rearrange.{accepts-both, moved-point}
 use Rattle.demands.specs.Empty.{noPoints, TableOf, noPointFile, zeroLines, noPointSheet, NothingFound, EmptySet}
 use Rattle.demands.proofs.Check.{any-certificate}
 use Rattle.demands.proofs.Demand3.{demand3}
@@ -257,6 +263,15 @@ printed file c e empty =
     let none : mask (lists (c .set)) ≡ noPoints = ap (λ ps. mask (lists ps)) empty ∙ mask-none in
     ap sheetOf e ∙ ap (λ s. judgementSheet (c .n) s (mask (lists (c .table))) (judged graded (c .n) s (mask (lists (c .table))))) none ∙ sheet-none (c .n) (mask (lists (c .table)))
 
+-- Rearrange accepts it with each wiring, and leaves it as it was
+rearrange-none : (n : ℕ) (f ts s′ f′ : List ℕ) (r : RearrangeAnswer) → TableOf n f → Wiring n ts → RearrangeContract (rearrangeOutcome noPoints f n ts) noPoints s′ f f′ r
+    → (r ≡ rearranged.Accepted) × (s′ ≡ noPoints)
+rearrange-none n f ts s′ f′ r h w c =
+    let filter : Filter n noPoints f = filter-none h in
+    let (is, set, _) = accepts-both n ts noPoints s′ f f′ r c filter w in
+    let none : HasPoint (rewired n ts noPoints) → ⊥ = λ p. only-zeros n noPoints (filter .set-long) (formed-says n noPoints .0 (filter .set-formed)) .1 refl (moved-point n ts noPoints f filter w .0 p) in
+    (is, set ∙ only-zeros n (rewired n ts noPoints) (rewired-long n ts noPoints) (formed-says n (rewired n ts noPoints) .0 (rewired-formed n ts noPoints)) .0 none)
+
 -- no refusal of a file is by 6
 read-6 : (k l : ℕ) (file : List ℕ) → readOutcome k l file ≢ refused 6
 unfolding readOutcome
@@ -264,7 +279,7 @@ read-6 k l file = checked-not-6 (readChecks k l) (contents file) (λ e. let (x, 
 
 -- every sentence
 pub empty-set : EmptySet
-unfolding readOutcome writeOutcome convertOutcome degreeOutcome rankOutcome judgeOutcome certifyOutcome checkOutcome contents twoLists pointList pointsFrom varint groups isEmpty judged
+unfolding readOutcome writeOutcome convertOutcome degreeOutcome rankOutcome judgeOutcome certifyOutcome checkOutcome rearrangeOutcome contents twoLists pointList pointsFrom varint groups isEmpty judged
 empty-set = record {
   only-zeros = only-zeros;
   read = λ n ones t r. contents-encoded (noPointFile n ones) (valid-none n ones t r);
@@ -273,6 +288,7 @@ empty-set = record {
       back-read (encode (noPointFile n ones)) (encoded-bytes (noPointFile n ones) valid, (noPointFile n ones, contents-encoded (noPointFile n ones) valid, refl, mask-none, refl)) r s s′ f f′ long-set long-table h;
   write = write-none;
   write-leaves = λ n f out out′ w h l x. leaves-file x (write-none n f (length out) h l);
+  rearrange = rearrange-none;
   judge = λ n f h. (judged graded n noPoints f, judge-accepts graded n noPoints f (filter-none h));
   certify = certify-none;
   certify-leaves = certified-leaves;
@@ -296,4 +312,5 @@ empty-set = record {
   judge-6 = λ s f n m p q l. checked-not-6 (judgeChecks s f n m p q l) _ (λ e. not-both (sym e));
   certify-6 = λ s f n side d m l. checked-not-6 (certifyInputs s f n side d m l ++ ranksEqual graded s f n side d) _ (λ e. not-both (sym e));
   check-6 = λ s f n side d c. checked-not-6 (checkInputs s f n side d (length c)) _ (λ e. not-both (sym e));
+  rearrange-6 = λ s f n ts. checked-not-6 (rearrangeChecks s f n ts) _ (λ e. not-both (sym e));
 }

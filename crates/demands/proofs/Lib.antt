@@ -15,6 +15,9 @@ pub mod Empty
 pub mod Kept
 pub mod Mark
 pub mod NormalFormWords
+pub mod MovedRanks
+pub mod RearrangedRanks
+pub mod Rearrange
 pub mod Report
 pub mod Sides
 pub mod Unreached

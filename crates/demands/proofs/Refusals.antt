@@ -8,6 +8,7 @@
 --   certify-refuses    what Certify refuses
 --   check-refuses      what Check refuses
 --   write-refuses      what Write refuses
+--   rearrange-refuses  what Rearrange refuses
 use mathlib.Core.Path.{_≡_, sym, ap, _∙_, subst}
 use mathlib.Core.Logic.{_↔_}
 use mathlib.Core.Bool.{true, not}
@@ -41,9 +42,12 @@ use Rattle.immunity.specs.CertificateTest.{certifies}
 use Rattle.judge.specs.Judge.{judgeChecks, judgeOutcome}
 use Rattle.certify.specs.Certify.{certifyInputs, ranksEqual, certifyOutcome}
 use Rattle.checker.specs.Check.{checkInputs, checkOutcome}
+use Rattle.rearrange.specs.Rearrange.{rearranged, rearrangeChecks, rearrangeOutcome}
+use Rattle.wiring.proofs.Tested.{wiring-tested}
 use Rattle.demands.specs.JudgementWords.{SameRank, rankRules, judgeRules, certifyRules}
 use Rattle.demands.specs.Check.{checkRules}
 use Rattle.demands.specs.NormalFormWords.{convertRules, degreeRules}
+use Rattle.demands.specs.Rearrange.{rearrangeRules}
 use Rattle.demands.specs.Write.{writeRules}
 
 -- two numbers are equal
@@ -124,3 +128,9 @@ unfolding writeOutcome
 write-refuses n s f m k = refused-first (fileOf n s f) k {cs = writeInputs s f n ++ roomFor (length (fileOf n s f)) m} {rs = writeRules s f n m}
     (equal-says (length s) 512 also equal-says (length f) 512 also taps-range n also formed-says n s also formed-says n f
     also most-says (length (fileOf n s f)) m also nothing)
+
+-- what Rearrange refuses
+pub rearrange-refuses : (n : ℕ) (s f ts : List ℕ) (k : ℕ) → (rearrangeOutcome s f n ts ≡ refused k) ↔ FirstBroken (rearrangeRules s f n ts) k
+unfolding rearrangeOutcome
+rearrange-refuses n s f ts k = refused-first (rearranged n ts s f) k {cs = rearrangeChecks s f n ts} {rs = rearrangeRules s f n ts}
+    (equal-says (length s) 512 also equal-says (length f) 512 also taps-range n also formed-says n s also formed-says n f also wiring-tested n ts also nothing)

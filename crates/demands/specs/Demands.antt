@@ -35,6 +35,8 @@ use Rattle.filter_file.specs.Fault.{FileFault}
 use Rattle.filter_file.specs.Read.{readOutcome, outcomeOf as readOutcomeOf, ReadContract, reading}
 use Rattle.filter_file.specs.Write.{WriteContract}
 use Rattle.judge.specs.declared.JudgeAnswer.{JudgeAnswer}
+use Rattle.rearrange.specs.declared.RearrangeAnswer.{RearrangeAnswer}
+use Rattle.rearrange.specs.Rearrange.{Rearranged, RearrangeContract}
 use Rattle.certify.specs.declared.CertifyAnswer.{CertifyAnswer}
 use Rattle.filter.specs.Sides.{Sides, ofSide}
 use Rattle.filter.specs.Part.{part}
@@ -88,6 +90,8 @@ pub record Demand1 : Type 0 where
   -- of Judge,
   pub judge-keeps : (o : Outcome Judgement) (ws ws′ : List ℕ) (w w′ : Sides (List ℕ)) (m m′ : List ℕ) (r : JudgeAnswer) (k : ℕ)
       → JudgeContract o ws ws′ w w′ m m′ r → o ≡ refused k → (ws′ ≡ ws) × (w′ ≡ w) × (m′ ≡ m)
+  -- of Rearrange,
+  pub rearrange-keeps : (o : Outcome Rearranged) (s s′ f f′ : List ℕ) (r : RearrangeAnswer) (k : ℕ) → RearrangeContract o s s′ f f′ r → o ≡ refused k → (s′ ≡ s) × (f′ ≡ f)
   -- and of Certify, save that 12 leaves the workspace zero
   pub certify-keeps : (o : Outcome (List ℕ)) (ws ws′ c c′ : List ℕ) (r : CertifyAnswer) (k : ℕ)
       → CertifyContract o ws ws′ c c′ r → o ≡ refused k → (c′ ≡ c) × (k ≢ 12 → ws′ ≡ ws) × (k ≡ 12 → ws′ ≡ zeros (length ws))

@@ -1,6 +1,6 @@
 -- What is promised of a set without a point, sentence by sentence, about the definitions that the contracts equate with what the code
--- answers and leaves: docs/SPECIFICATION.md, 'Words', 'Refusals', 'Filter file', 'Read', 'Write', 'Judge', 'Certify', 'Check' and
--- 'Sheet'. The rest is said where it is said of every set: `exists`, `none-differs` and `none-annihilates` of demand 3, `empty-mask` of
+-- answers and leaves: docs/SPECIFICATION.md, 'Words', 'Refusals', 'Filter file', 'Read', 'Write', 'Rearrange', 'Judge', 'Certify', 'Check'
+-- and 'Sheet'. The rest is said where it is said of every set: `exists`, `none-differs` and `none-annihilates` of demand 3, `empty-mask` of
 -- RankWords, `no-side` and `no-witnesses` of JudgeWords, `exists` of MarkWords, `printed-none` of SetMark, `one-exists` and `side-exists` of
 -- SidesWords, `judge-none` of KeptMasks.
 --   noPoints              the set of no points
@@ -9,7 +9,7 @@
 --   zeroLines n           a rank line of zeros for each degree up to n
 --   noPointSheet n        the sheet of n taps and no points
 --   NothingFound j        the judgement j has no rank but 0, no degree, no side, no mark, and leaves zeros
---   EmptySet              what is promised of Read, Write, Judge, Certify, Check, the sheet and the refusals
+--   EmptySet              what is promised of Read, Write, Rearrange, Judge, Certify, Check, the sheet and the refusals
 use mathlib.Core.Path.{_≡_}
 use mathlib.Core.Logic.{_↔_, _≢_}
 use mathlib.Core.Bool.{Bool, true}
@@ -50,6 +50,10 @@ use Rattle.certify.specs.Certify.{certifyOutcome, CertifyContract, CertifyAccep
 use Rattle.checker.specs.declared.CheckAnswer.{CheckAnswer}
 use Rattle.checker.specs.declared.CheckAnswer.the-variants as answer
 use Rattle.checker.specs.Check.{checkOutcome, CheckContract, CheckAccepts}
+use Rattle.rearrange.specs.declared.RearrangeAnswer.{RearrangeAnswer}
+use Rattle.rearrange.specs.declared.RearrangeAnswer.the-variants as rearranged
+use Rattle.wiring.specs.Wiring.{Wiring}
+use Rattle.rearrange.specs.Rearrange.{rearrangeOutcome, RearrangeContract}
 use Rattle.text.specs.Text.{Text, ascii, newline, decimal, labelled, joined}
 use Rattle.sheet_text.specs.Sheet.{sheet}
 
@@ -105,6 +109,9 @@ pub record EmptySet : Type 0 where
   pub write : (n : ℕ) (f : List ℕ) (m : ℕ) → TableOf n f → let file : List ℕ = encode (noPointFile n (points f)) in length file ≤ m → WriteAccepts n noPoints f m file
   pub write-leaves : (n : ℕ) (f out out′ : List ℕ) (w : WriteAnswer) → TableOf n f → let file : List ℕ = encode (noPointFile n (points f)) in length file ≤ length out
       → WriteContract (writeOutcome noPoints f n (length out)) w out out′ → (writingOf w ≡ accepted (length file)) × (out′ ≡ file ++ drop (length file) out)
+  -- by Rearrange with each wiring, which leaves it as it was,
+  pub rearrange : (n : ℕ) (f ts s′ f′ : List ℕ) (r : RearrangeAnswer) → TableOf n f → Wiring n ts → RearrangeContract (rearrangeOutcome noPoints f n ts) noPoints s′ f f′ r
+      → (r ≡ rearranged.Accepted) × (s′ ≡ noPoints)
   -- by Judge,
   pub judge : (n : ℕ) (f : List ℕ) → TableOf n f → (j : Judgement) × JudgeAccepts graded n noPoints f j
   -- by Certify at every degree and side, with a certificate of zeros,
@@ -150,3 +157,4 @@ pub record EmptySet : Type 0 where
   pub judge-6 : (s f : List ℕ) (n m p q l : ℕ) → judgeOutcome graded s f n m p q l ≢ refused 6
   pub certify-6 : (s f : List ℕ) (n side d m l : ℕ) → certifyOutcome graded s f n side d m l ≢ refused 6
   pub check-6 : (s f : List ℕ) (n side d : ℕ) (c : List ℕ) → checkOutcome graded s f n side d c ≢ refused 6
+  pub rearrange-6 : (s f : List ℕ) (n : ℕ) (ts : List ℕ) → rearrangeOutcome s f n ts ≢ refused 6

@@ -6,6 +6,7 @@ pub mod JudgementWords
 pub mod Kept
 pub mod Mark
 pub mod NormalFormWords
+pub mod Rearrange
 pub mod Report
 pub mod Sides
 pub mod Weight
