@@ -38,7 +38,7 @@
  * MINOR rises where something is added, and is 0 again where MAJOR rises.
  */
 #define EKTHAVRUL_VERSION_MAJOR 1
-#define EKTHAVRUL_VERSION_MINOR 0
+#define EKTHAVRUL_VERSION_MINOR 1
 
 #ifdef __cplusplus
 extern "C" {
@@ -89,7 +89,7 @@ enum {
 /* What an operation answers; none answers 6. */
 enum {
     EKTHAVRUL_ACCEPTED = 0,
-    EKTHAVRUL_REFUSED_LENGTH = 1,          /* a buffer has the wrong length */
+    EKTHAVRUL_REFUSED_LENGTH = 1,          /* a buffer other than an output or a wiring has the wrong length */
     EKTHAVRUL_REFUSED_FILE_ENDS = 2,       /* the file ends before or inside a number */
     EKTHAVRUL_REFUSED_NUMBER_FORM = 3,     /* a number is not in its shortest form, or has more than two groups */
     EKTHAVRUL_REFUSED_TAPS = 4,            /* n is not from 1 to 9 */
@@ -100,7 +100,8 @@ enum {
     EKTHAVRUL_REFUSED_DEGREE = 10,         /* the degree d is over n */
     EKTHAVRUL_REFUSED_SIDE = 11,           /* the side is neither 0 nor 1 */
     EKTHAVRUL_REFUSED_RANKS_DIFFER = 12,   /* at d the part's rank is not that of the set */
-    EKTHAVRUL_REFUSED_SHORT_OUTPUT = 13    /* the output is shorter than the file */
+    EKTHAVRUL_REFUSED_SHORT_OUTPUT = 13,   /* the output is shorter than the file */
+    EKTHAVRUL_REFUSED_WIRING = 14          /* the wiring does not have n entries that name each tap from 1 to n once */
 };
 
 /*
@@ -121,6 +122,19 @@ uint8_t ekthavrul_read(const uint8_t *file, size_t file_length, uint8_t *set, si
  */
 uint8_t ekthavrul_write(const uint8_t *set, size_t set_length, const uint8_t *table, size_t table_length, size_t n,
                         uint8_t *output, size_t output_length, size_t *length);
+
+/*
+ * Rearrange: the taps of the filter, rearranged by a wiring. Tap 1 is x1, the highest bit of a point. The wiring is n
+ * bytes: entry i, counted from 1, is the old tap that becomes tap i, each tap from 1 to n once. `set` and `table` become
+ * the rearranged ones: at each point below 2^n the byte of the old point that has at tap wiring[i - 1] what the point has
+ * at tap i, for each i; the bytes from 2^n on stay 0. The wiring that has at entry wiring[i - 1], counted from 1, the
+ * number i, for each i, restores both. The ranks of S and of both parts at each degree are the same before and after, and
+ * so are the degree, the side, the sides' own degrees and the mark; the additions, the witnesses and the kept points may
+ * change.
+ * Refusals: LENGTH (set, table), TAPS, BYTES (set, then table), WIRING.
+ */
+uint8_t ekthavrul_rearrange(uint8_t *set, size_t set_length, uint8_t *table, size_t table_length, size_t n,
+                            const uint8_t *wiring, size_t wiring_length);
 
 /*
  * Convert: the table of a polynomial's values becomes its coefficients, and coefficients become the table.

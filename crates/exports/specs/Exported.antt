@@ -8,6 +8,7 @@
 --   CheckStatus o ..     the status and the number for yes or no after Check
 --   inFront part copy    a buffer with a part at its front, as many bytes as it has room for
 --   HandOverStatus ..    the length of the part that Hand over hands back, and its copy
+--   RearrangeStatus o .. the status and both masks after Rearrange
 use mathlib.Core.Path.{_≡_}
 use mathlib.Core.Bool.{Bool}
 use mathlib.Core.List.{List, _++_}
@@ -25,6 +26,7 @@ use Rattle.immunity.specs.Judgement.{Judgement}
 use Rattle.certify.specs.Certify.{clearedUnless}
 use Rattle.hand_over.specs.HandOver.{handed}
 use Rattle.judge_report.specs.Report.{reportOf, StandsFor}
+use Rattle.rearrange.specs.Rearrange.{Rearranged}
 
 -- Read: the set s, the table f and the number n at entry and at exit
 pub record ReadStatus (o : Outcome Contents) (s s′ f f′ : List ℕ) (n n′ r : ℕ) : Type 0 where
@@ -80,3 +82,9 @@ inFront part copy = let k : ℕ = min (length part) (length copy) in take k part
 pub record HandOverStatus (n side : ℕ) (w : Sides (List ℕ)) (copy copy′ : List ℕ) (r : ℕ) : Type 0 where
   pub long : r ≡ length (handed n side w)
   pub copied : copy′ ≡ inFront (handed n side w) copy
+
+-- Rearrange: the set s and the table f at entry and at exit
+pub record RearrangeStatus (o : Outcome Rearranged) (s s′ f f′ : List ℕ) (r : ℕ) : Type 0 where
+  pub status : r ≡ statusOf o
+  pub set : s′ ≡ leftBy o s (λ x. x .set)
+  pub table : f′ ≡ leftBy o f (λ x. x .table)

@@ -16,7 +16,8 @@ ghost use Rattle.judge.specs.Judge.{judgeOutcome};
 ghost use Rattle.judge_report.specs.Report.{reportedOutcome};
 ghost use Rattle.certify.specs.Certify.{certifyOutcome};
 ghost use Rattle.checker.specs.Check.{checkOutcome};
-ghost use Rattle.exports.specs.Exported.{ReadStatus, WriteStatus, RankStatus, JudgeStatus, CertifyStatus, CheckStatus, inFront, HandOverStatus};
+ghost use Rattle.rearrange.specs.Rearrange.{rearrangeOutcome};
+ghost use Rattle.exports.specs.Exported.{ReadStatus, WriteStatus, RankStatus, JudgeStatus, CertifyStatus, CheckStatus, inFront, HandOverStatus, RearrangeStatus};
 use buffer::append;
 use certify::CertifyAnswer;
 use checker::CheckAnswer;
@@ -27,6 +28,7 @@ use judge_report::write_report;
 use matrix::rank::RankAnswer;
 use polynomial::convert::ConvertAnswer;
 use polynomial::degree::DegreeAnswer;
+use rearrange::RearrangeAnswer;
 use refusal::Refusal;
 
 // Convert.
@@ -208,4 +210,20 @@ pub extern "C" fn ekthavrul_hand_over<'a>(
     let part = hand_over::hand_over(n, side, one, zero);
     copy_front(part, copy);
     part.len()
+}
+
+// Rearrange: `set` and `table` become the rearranged ones.
+#[no_mangle]
+pub extern "C" fn ekthavrul_rearrange(
+    set: &mut [u8],
+    table: &mut [u8],
+    n: usize,
+    wiring: &[u8],
+) -> u8
+    ensures { λ r. ⌜ RearrangeStatus (rearrangeOutcome (now (set .entry)) (now (table .entry)) n (now (wiring .entry))) (now (set .entry)) (now (set .exit)) (now (table .entry)) (now (table .exit)) r ⌝ }
+{
+    match rearrange::rearrange(set, table, n, wiring) {
+        RearrangeAnswer::Refused(x) => refusal::number(x),
+        RearrangeAnswer::Accepted => 0,
+    }
 }
