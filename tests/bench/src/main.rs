@@ -184,10 +184,8 @@ fn bench_growth(title: &str, filters: impl Iterator<Item = (usize, Vec<u8>, Vec<
 
 // The first of the points in an order drawn at random, so many of them.
 fn some_points(count: usize) -> Vec<u8> {
-    let mut random = Random(3);
-    let mut points: Vec<(u64, usize)> = (0..512).map(|a| (random.number(), a)).collect();
-    points.sort();
-    mask_of(9, |a| points[..count].iter().any(|(_, point)| *point == a))
+    let points = Random(3).shuffled(512);
+    mask_of(9, |a| points[..count].contains(&a))
 }
 
 // Prints every comparison.

@@ -13,11 +13,11 @@ pub struct Call<Own> {
 
 impl<Own> Call<Own> {
     // A call of n taps that is accepted: the points 0 and 1 are in different parts.
-    fn good(random: &mut Random, n: usize, own: fn(&mut Random) -> Own) -> Call<Own> {
+    fn good(random: &mut Random, n: usize, own: fn(&mut Random, usize) -> Own) -> Call<Own> {
         let (mut set, mut table) = (random.mask(n, 4), random.mask(n, 4));
         set[..2].fill(1);
         table[..2].copy_from_slice(&[0, 1]);
-        Call { n, set, table, own: own(random) }
+        Call { n, set, table, own: own(random, n) }
     }
 
     // The filter that is lent.
@@ -30,7 +30,7 @@ impl<Own> Call<Own> {
 pub type Fault<Own> = fn(&mut Call<Own>);
 
 // The byte at the place becomes the value, if there is such a place.
-fn put(bytes: &mut [u8], place: usize, value: u8) {
+pub fn put(bytes: &mut [u8], place: usize, value: u8) {
     bytes.iter_mut().skip(place).take(1).for_each(|byte| *byte = value);
 }
 
@@ -67,7 +67,7 @@ fn filter_faults<Own>() -> [Fault<Own>; 22] {
 // A call of every n with every two of the faults of a filter and of its own, one after the other; the numbers answered.
 pub fn lend_faults<Own>(
     seed: u64,
-    own: fn(&mut Random) -> Own,
+    own: fn(&mut Random, usize) -> Own,
     own_faults: &[Fault<Own>],
     operation: impl Fn(&mut Random, &Call<Own>) -> Result<(), u8>,
 ) -> Vec<usize> {
@@ -94,8 +94,8 @@ pub struct Asked {
 }
 
 impl Asked {
-    // What all three accept beside a filter with a point in each part.
-    pub fn good(random: &mut Random) -> Asked {
+    // What all three accept beside a filter with a point in each part, of any number of taps.
+    pub fn good(random: &mut Random, _: usize) -> Asked {
         let side = random.pick(&[1, 0]);
         Asked { side, d: 0, workspace: 8192, witnesses: [512, 512], kept: 512, report: 36, certificate: 4096 }
     }

@@ -1,6 +1,7 @@
 // Buffers that are lent, for tests: that what an operation reads stays as it was, and that it writes nothing beside what
 // it is lent.
 use crate::filter::Filter;
+use crate::random::Random;
 use std::hint::black_box;
 
 // What the operation answers when it is lent a copy of the set and of the table, which stay as they were.
@@ -13,6 +14,12 @@ pub fn lend<A>(filter: Filter, operation: impl FnOnce(Filter) -> A) -> A {
 
 // So many elements stand on each side of a buffer that is lent.
 pub const MARGIN: usize = 64;
+
+// The bytes with random ones on each side.
+pub fn around(random: &mut Random, bytes: &[u8]) -> Vec<u8> {
+    let [before, behind] = [(); 2].map(|_| random.bytes(MARGIN));
+    [&before, bytes, &behind].concat()
+}
 
 // The part of a buffer that is lent.
 pub fn middle<T>(buffer: &mut [T]) -> &mut [T] {

@@ -23,6 +23,13 @@ impl Random {
         items[self.below(items.len())]
     }
 
+    // The numbers below the count, in any order.
+    pub fn shuffled(&mut self, count: usize) -> Vec<usize> {
+        let mut drawn: Vec<(u64, usize)> = (0..count).map(|i| (self.number(), i)).collect();
+        drawn.sort();
+        drawn.into_iter().map(|(_, i)| i).collect()
+    }
+
     // Bytes of any value.
     pub fn bytes(&mut self, count: usize) -> Vec<u8> {
         (0..count).map(|_| self.number() as u8).collect()

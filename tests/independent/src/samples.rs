@@ -114,6 +114,15 @@ pub fn of_weights(n: usize, chosen: usize) -> Vec<u8> {
     mask_of(n, |a| chosen >> weight(a) & 1 == 1)
 }
 
+// Copies of the bytes: cut before the place, with its byte dropped, and with each of the values put in its stead and before
+// it. At the end there is no byte to drop.
+pub fn damaged(bytes: &[u8], place: usize, values: &[u8]) -> Vec<Vec<u8>> {
+    let (before, from) = bytes.split_at(place);
+    let behind = from.get(1..).unwrap_or_default();
+    let put = values.iter().flat_map(|value| [behind, from].map(|rest| [before, &[*value], rest].concat()));
+    [before.to_vec(), [before, behind].concat()].into_iter().chain(put).collect()
+}
+
 // How often each number was answered, 0 for acceptance.
 pub struct Tally([usize; 256]);
 

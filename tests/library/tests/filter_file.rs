@@ -3,7 +3,7 @@ use independent::filter::Filter;
 use independent::filter_file::{Triple, house_number, read};
 use independent::random::Random;
 use independent::rank::points_of;
-use independent::samples::{LISTED_FILES, TABLES, Tally, mask_of, pairs};
+use independent::samples::{LISTED_FILES, TABLES, Tally, damaged, mask_of, pairs};
 use independent::stored::{root, stored};
 use std::fs;
 use std::hint::black_box;
@@ -51,15 +51,9 @@ impl Comparison {
         self.lend(file, [512, 512]).0
     }
 
-    // Copies of the file: cut before the place, with its byte dropped, and with each of the values put in its stead and
-    // before it.
+    // The file, damaged at the place.
     fn damage(&mut self, file: &[u8], place: usize, values: &[u8]) {
-        self.file(&file[..place]);
-        self.file(&[&file[..place], &file[place + 1..]].concat());
-        for value in values {
-            self.file(&[&file[..place], &[*value], &file[place + 1..]].concat());
-            self.file(&[&file[..place], &[*value], &file[place..]].concat());
-        }
+        damaged(file, place, values).iter().for_each(|file| _ = self.file(file));
     }
 
     // So many files of each n, damaged at every place.

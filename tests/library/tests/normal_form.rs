@@ -1,5 +1,5 @@
 // Convert and Degree of the static library, compared with the independent implementation.
-use independent::lent::{MARGIN, margins_stay, middle};
+use independent::lent::{around, margins_stay, middle};
 use independent::normal_form;
 use independent::random::Random;
 use independent::samples::{Tally, mask_of, pairs};
@@ -121,11 +121,10 @@ fn random_bytes_of_random_lengths() {
 fn nothing_outside_the_lent_bytes_is_written() {
     let mut random = Random(4);
     for (n, length) in pairs(&TAPS, &LENGTHS) {
-        let mut around = random.bytes(MARGIN + length + MARGIN);
         let [_, mask] = grounds(&mut random, n, length);
-        middle(&mut around).copy_from_slice(&mask);
-        let before = around.clone();
-        let _ = library::convert(middle(&mut around), n);
-        assert!(margins_stay(&before, &around), "Convert, n = {n}, length {length}");
+        let entry = around(&mut random, &mask);
+        let mut exit = entry.clone();
+        let _ = library::convert(middle(&mut exit), n);
+        assert!(margins_stay(&entry, &exit), "Convert, n = {n}, length {length}");
     }
 }

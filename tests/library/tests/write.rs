@@ -150,7 +150,7 @@ const WRITE_FAULTS: [Fault<usize>; 2] = [|call| call.own = 1, |call| call.own = 
 fn every_refusal_and_every_pair_of_them_in_order() {
     let numbers = lend_faults(
         8,
-        |_| 0,
+        |_, _| 0,
         &WRITE_FAULTS,
         |random, call| {
             let room = file_length(call.filter()).saturating_sub(call.own);
