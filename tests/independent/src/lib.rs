@@ -17,9 +17,11 @@ pub mod normal_form; // normal_form.rs: Convert, Degree
 pub mod other_sums; // other_sums.rs: certificates with other sums than those of Certify, for tests
 pub mod random; // random.rs: a random generator for tests
 pub mod rank; // rank.rs: Rank
+pub mod rearrange; // rearrange.rs: Rearrange
 pub mod refusal; // refusal.rs: the refusals, and the checks that several operations make
 pub mod report; // report.rs: Judge with a report
 pub mod samples; // samples.rs: masks, filters and files for tests
 pub mod sheet; // sheet.rs: the printed sheet
 pub mod span; // span.rs: vectors over two elements, and which of them are sums of earlier ones
 pub mod stored; // stored.rs: the files of the repository that come from here
+pub mod wirings; // wirings.rs: wirings, and lists that are none, for tests

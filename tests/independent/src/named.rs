@@ -3,6 +3,7 @@ use crate::filter_file::Triple;
 use crate::normal_form::weight;
 use crate::random::Random;
 use crate::rank::points_of;
+use crate::rearrange::tap;
 use crate::samples::{LISTED_FILES, NO_POINT, SETS, TABLES};
 
 // A file with its name.
@@ -16,11 +17,6 @@ fn named(name: &str, n: usize, set: impl Fn(usize) -> bool, table: impl Fn(usize
     let listed = |chosen: &dyn Fn(usize) -> bool| (0..1 << n).filter(|a| chosen(*a)).collect();
     let triple = Triple { n, set: listed(&set), table: listed(&table) };
     Named { name: name.to_string(), file: triple.file() }
-}
-
-// Tap i of the point a of n taps: x1 is the highest bit.
-pub fn tap(n: usize, a: usize, i: usize) -> bool {
-    a >> (n - i) & 1 == 1
 }
 
 // The sum of products of taps of the point a of n taps.

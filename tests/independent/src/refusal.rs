@@ -20,6 +20,7 @@ pub enum Refusal {
     Side = 11,
     RanksDiffer = 12,
     ShortOutput = 13,
+    Wiring = 14,
 }
 
 impl From<Refusal> for u8 {

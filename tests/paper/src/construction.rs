@@ -1,6 +1,6 @@
 // The weightwise perfectly balanced function of Carlet, Méaux and Rotella (docs/SPECIFICATION.md, 'Sources') of two, four,
 // eight .. taps.
-use independent::named::tap;
+use independent::rearrange::tap;
 
 // Of two taps the first; of twice as many the sum of that of each half and of the product of the first half.
 fn value(taps: &[bool]) -> bool {

@@ -1,8 +1,9 @@
 // The figures that are exact, by the proved library and by the independent implementation: tables 2a and 3a, the row of
 // [CMR17] at eight taps in table 4, and the upper bounds in table 5.
 use independent::judgement::Judgement;
-use independent::named::{perfectly_balanced, tap};
+use independent::named::perfectly_balanced;
 use independent::random::Random;
+use independent::rearrange::new_point;
 use independent::samples::mask_of;
 use library::both::{JUDGE_LENGTHS, judge};
 use paper::construction::construction;
@@ -68,8 +69,8 @@ fn the_construction_is_balanced_on_every_slice() {
 
 #[test]
 fn the_function_of_the_examples_is_the_construction_with_its_taps_in_another_order() {
-    let moved = |a: usize| [1, 5, 3, 7, 2, 6, 4, 8].iter().fold(0, |b, i| 2 * b + usize::from(tap(8, a, *i)));
-    assert!((0..256).all(|a| perfectly_balanced(a) == construction(moved(a))));
+    let wiring = [1, 5, 3, 7, 2, 6, 4, 8];
+    assert!((0..256).all(|a| perfectly_balanced(a) == construction(new_point(8, &wiring, a))));
 }
 
 #[test]
