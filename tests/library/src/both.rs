@@ -1,10 +1,11 @@
-// Rank, Judge and Certify of the static library and of the independent implementation, compared: each is lent its own copy
-// of the same buffers, full of random content, and both answer and leave the same.
+// Rank, Judge, Certify and Rearrange of the static library and of the independent implementation, compared: each is lent
+// its own copy of the same buffers, full of random content where they are only filled, and both answer and leave the same.
 use independent::filter::Filter;
 use independent::judgement::{self, Judgement};
 use independent::lent::lend;
 use independent::random::Random;
 use independent::rank::{self, Ranking};
+use independent::rearrange;
 use independent::report;
 use std::fmt::{Arguments, Debug};
 use std::hint::black_box;
@@ -12,6 +13,7 @@ use std::hint::black_box;
 type Rank = fn(&[u8], usize, usize, &mut [u64], &mut [u8]) -> Result<Ranking, u8>;
 type Judge = fn(Filter, &mut [u64], &mut [u8], &mut [u8], &mut [u8], &mut [u32]) -> Result<Judgement, u8>;
 type Certify = fn(Filter, u8, usize, &mut [u64], &mut [u64]) -> Result<(), u8>;
+type Rearrange = fn(&mut [u8], &mut [u8], usize, &[u8]) -> Result<(), u8>;
 
 // The lengths that are accepted. Rank: the workspace, the mask of the kept points. Judge: the workspace, the witness
 // buffers of side 1 and side 0, the mask of the kept points, the report. Certify: the workspace, the certificate.
@@ -123,4 +125,19 @@ pub fn certify(
     });
     let [_, certificate] = exit.words;
     (answer, certificate)
+}
+
+// Rearrange of the set and the table: what they are at exit. The wiring is as it was, and so are both after a refusal.
+pub fn rearrange(n: usize, masks: &[Vec<u8>; 2], wiring: &[u8]) -> Result<[Vec<u8>; 2], u8> {
+    let (both, lent) = ([crate::rearrange as Rearrange, rearrange::rearrange], wiring.to_vec());
+    let [(proved, exit), (plain, plain_exit)] = both.map(|rearrange| {
+        let [mut set, mut table] = masks.clone();
+        (rearrange(&mut set, &mut table, n, black_box(&lent)), [set, table])
+    });
+    let asked = format_args!("Rearrange of {masks:?}, n = {n}, wiring {wiring:?}");
+    assert_eq!(black_box(&lent), wiring, "the wiring at exit: {asked}");
+    assert_eq!(proved, plain, "{asked}");
+    assert_eq!(exit, plain_exit, "the set and the table: {asked}");
+    assert!(proved.is_ok() || exit == *masks, "a refusal wrote in the set or the table: {asked}");
+    proved.map(|()| exit)
 }

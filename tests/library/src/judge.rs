@@ -26,7 +26,7 @@ const RANKS_AT: [usize; 3] = [0, 1, 2];
 const RANKS_OF_DEGREE: usize = 3;
 const DEGREE_AT: usize = 30;
 const SIDE_AT: usize = 31;
-const ADDITIONS_AT: usize = 32;
+pub const ADDITIONS_AT: usize = 32;
 const OWN_DEGREES_AT: [usize; 2] = [33, 34];
 const MARK_AT: usize = 35;
 

@@ -9,6 +9,7 @@ mod hand_over;
 mod judge;
 mod rank;
 mod read;
+mod rearrange;
 mod write;
 
 pub use certify::certify;
@@ -16,9 +17,10 @@ pub use check::check;
 pub use convert::convert;
 pub use degree::degree;
 pub use hand_over::hand_over;
-pub use judge::judge;
+pub use judge::{ADDITIONS_AT, judge};
 pub use rank::rank;
 pub use read::read;
+pub use rearrange::rearrange;
 pub use write::write;
 
 // What a call answered: the written answer for status 0, else the status; a refusal must leave the answer as it was.
