@@ -1,4 +1,7 @@
-/* Calls every function of the header with numbered cases of the specification, and once so that it refuses. */
+/*
+ * Calls every function of the header: with numbered cases of the specification, but Rearrange with a filter of its own;
+ * and each at least once so that it refuses.
+ */
 #include <ekthavrul.h>
 #include <stdio.h>
 #include <string.h>
@@ -49,11 +52,16 @@ static void spoil_kept(void) {
     memset(kept, 77, sizeof kept);
 }
 
-/* Whether the mask of the kept points marks the points of the list, which ends in -1. */
-static int kept_are(const int *points) {
+/* Whether the mask marks the points of the list, which ends in -1. */
+static int marks(const uint8_t *mask, const int *points) {
     uint8_t wanted[POINTS];
     choose(wanted, points);
-    return memcmp(kept, wanted, sizeof wanted) == 0;
+    return memcmp(mask, wanted, sizeof wanted) == 0;
+}
+
+/* Whether the mask of the kept points marks the points of the list, which ends in -1. */
+static int kept_are(const int *points) {
+    return marks(kept, points);
 }
 
 /* Whether the mask of the kept points is as it was spoiled. */
@@ -255,6 +263,29 @@ static void check_mark(void) {
     expect(kept_are((int[]){3, 5, 6, 9, -1}), "the kept points of case 11 at its degree");
 }
 
+/* Rearrange of the filter of n taps by the wiring, of which so many entries are lent; its status. */
+static uint8_t rearrange(size_t n, const uint8_t *wiring, size_t length) {
+    return ekthavrul_rearrange(set, POINTS, table, POINTS, n, wiring, length);
+}
+
+/*
+ * Rearrange of three taps: the old tap 2 becomes tap 1, 3 becomes 2 and 1 becomes 3, so that the old point 010 becomes 100
+ * and 110 becomes 101. The inverse restores both masks, and a refusal leaves them as they were.
+ */
+static void check_rearrange(void) {
+    const uint8_t wiring[] = {2, 3, 1}, inverse[] = {3, 1, 2}, twice[] = {2, 3, 2};
+    choose(set, (int[]){2, 6, -1});
+    choose(table, (int[]){6, -1});
+    expect(rearrange(3, twice, sizeof twice) == EKTHAVRUL_REFUSED_WIRING, "Rearrange refuses a tap named twice");
+    expect(rearrange(3, wiring, 2) == EKTHAVRUL_REFUSED_WIRING, "Rearrange refuses a short wiring");
+    expect(rearrange(2, wiring, 2) == EKTHAVRUL_REFUSED_BYTES, "Rearrange refuses a point past the last");
+    expect(marks(set, (int[]){2, 6, -1}) && marks(table, (int[]){6, -1}), "the masks after Rearrange refused");
+    expect(rearrange(3, wiring, sizeof wiring) == 0, "Rearrange accepts");
+    expect(marks(set, (int[]){4, 5, -1}) && marks(table, (int[]){5, -1}), "the masks rearranged");
+    expect(rearrange(3, inverse, sizeof inverse) == 0, "Rearrange accepts the inverse");
+    expect(marks(set, (int[]){2, 6, -1}) && marks(table, (int[]){6, -1}), "the masks restored");
+}
+
 /* The file of one tap, no point and f zero, read into masks that held other bytes, and written again. */
 static void check_empty_file(void) {
     const uint8_t file[] = {0x01, 0x00, 0x00};
@@ -299,7 +330,7 @@ static void check_empty_certificate(size_t d) {
     check_answer(d, 0, "Check says no to a sum where there is no point");
 }
 
-/* The set of no points: its file, its report with f zero and with f one, and its certificates. */
+/* The set of no points: its file, its report with f zero and with f one, its certificates, and its taps rearranged. */
 static void check_empty_set(void) {
     uint8_t yes = 77;
     check_empty_file();
@@ -311,6 +342,9 @@ static void check_empty_set(void) {
     expect(certify(0, 3) == EKTHAVRUL_REFUSED_DEGREE && certify(2, 2) == EKTHAVRUL_REFUSED_SIDE,
            "Certify of no point refuses");
     expect(check(3, EKTHAVRUL_CERTIFICATE, &yes) == EKTHAVRUL_REFUSED_DEGREE && yes == 77, "Check of no point refuses");
+    choose(table, (int[]){1, -1});
+    expect(rearrange(2, (uint8_t[]){2, 1}, 2) == 0 && zeros(set, sizeof set) && marks(table, (int[]){2, -1}),
+           "Rearrange of no point");
 }
 
 /* Makes every check; the status is 0 if there was no fault. */
@@ -326,6 +360,7 @@ int main(void) {
     check_own_degrees((int[]){-1}, 0, EKTHAVRUL_NO_DEGREE, "Judge, case 8");
     check_own_degrees((int[]){0, -1}, EKTHAVRUL_NO_DEGREE, 0, "Judge, case 9");
     check_mark();
+    check_rearrange();
     check_empty_set();
     return faults != 0;
 }

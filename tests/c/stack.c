@@ -18,6 +18,7 @@ static uint8_t set[EKTHAVRUL_POINTS], table[EKTHAVRUL_POINTS], one[EKTHAVRUL_POI
 static uint64_t workspace[EKTHAVRUL_WORKSPACE], certificate[EKTHAVRUL_CERTIFICATE];
 static uint32_t report[EKTHAVRUL_REPORT], number;
 static size_t n = EKTHAVRUL_TAPS_MAX, length = EKTHAVRUL_FILE_MAX;
+static const uint8_t wiring[EKTHAVRUL_TAPS_MAX] = {5, 9, 1, 7, 3, 8, 2, 6, 4};
 static uint8_t yes, status;
 
 static void nothing(void) { status = EKTHAVRUL_ACCEPTED; }
@@ -25,6 +26,9 @@ static void write_file(void) {
     status = ekthavrul_write(set, sizeof set, table, sizeof table, n, file, sizeof file, &length);
 }
 static void read_file(void) { status = ekthavrul_read(file, length, set, sizeof set, table, sizeof table, &n); }
+static void rearrange(void) {
+    status = ekthavrul_rearrange(set, sizeof set, table, sizeof table, n, wiring, sizeof wiring);
+}
 static void convert(void) { status = ekthavrul_convert(table, sizeof table, n); }
 static void degree(void) { status = ekthavrul_degree(table, sizeof table, n, &number); }
 static void rank(void) {
@@ -48,9 +52,9 @@ static void hand_over(void) {
 static const struct {
     const char *name;
     void (*run)(void);
-} calls[] = {{"nothing", nothing}, {"Write", write_file},  {"Read", read_file}, {"Convert", convert},
-             {"Convert", convert}, {"Degree", degree},     {"Rank", rank},      {"Judge", judge},
-             {"Certify", certify}, {"Check", check},       {"Hand over", hand_over}};
+} calls[] = {{"nothing", nothing}, {"Write", write_file}, {"Read", read_file}, {"Rearrange", rearrange},
+             {"Convert", convert}, {"Convert", convert},  {"Degree", degree},  {"Rank", rank},
+             {"Judge", judge},     {"Certify", certify},  {"Check", check},    {"Hand over", hand_over}};
 
 /* The bytes of the stack that the call changes. */
 static size_t used_by(void (*run)(void)) {
