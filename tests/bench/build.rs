@@ -33,7 +33,7 @@ fn offer(library: &str, files: &[&str], condition: &str) -> bool {
 // Sets `has_c` where the C code was compiled, and `has_m4ri` where the code over M4RI was.
 fn main() {
     println!("cargo:rerun-if-changed=src/elimination.h");
-    offer("contenders", &["elimination", "judge", "certify", "check", "largest_weight"], "has_c");
+    offer("contenders", &["elimination", "judge", "certify", "check", "largest_weight", "rearrange"], "has_c");
     if offer("ranks_m4ri", &["ranks_m4ri"], "has_m4ri") {
         println!("cargo:rustc-link-lib=m4ri");
     }

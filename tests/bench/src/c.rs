@@ -1,5 +1,5 @@
 // The contenders in C; no_c.rs stands in the stead of this file where there was no compiler.
-use crate::contenders::{Certify, Check, Judge, LargestWeight, Rank};
+use crate::contenders::{Certify, Check, Judge, LargestWeight, Rank, Rearrange};
 use independent::judgement::Judgement;
 use independent::rank::Ranking;
 
@@ -32,6 +32,7 @@ unsafe extern "C" {
     fn c_check(set: *const u8, table: *const u8, n: usize, side: u8, d: usize, certificate: *const u64) -> u8;
     fn c_largest_weight(coefficients: *const u8) -> u32;
     fn c_largest_count(coefficients: *const u8) -> u32;
+    fn c_rearrange(set: *mut u8, table: *mut u8, n: usize, wiring: *const u8);
 }
 
 // Rank.
@@ -98,4 +99,10 @@ pub const LARGEST_WEIGHT: Option<LargestWeight> = Some(|coefficients| {
 pub const LARGEST_COUNT: Option<LargestWeight> = Some(|coefficients| {
     assert_eq!(coefficients.len(), 512);
     unsafe { c_largest_count(coefficients.as_ptr()) }
+});
+
+// Rearrange.
+pub const REARRANGE: Option<Rearrange> = Some(|set, table, n, wiring| {
+    assert_eq!((set.len(), table.len(), wiring.len()), (512, 512, n));
+    unsafe { c_rearrange(set.as_mut_ptr(), table.as_mut_ptr(), n, wiring.as_ptr()) }
 });

@@ -2,7 +2,7 @@
 use crate::certificates::Certificate;
 use crate::judge::part_mask;
 use crate::timing::Contender;
-use crate::{c, certify, check, elimination, judge, largest_weight, m4ri};
+use crate::{c, certify, check, elimination, judge, largest_weight, m4ri, rearrange};
 use independent::filter::Filter;
 use independent::judgement::Judgement;
 use independent::rank::Ranking;
@@ -14,13 +14,15 @@ pub type Judge = fn(Filter, &mut [u64], &mut [u8], &mut [u8], &mut [u8]) -> Judg
 pub type Certify = fn(Filter, u8, usize, &mut [u64], &mut [u64]) -> Result<(), u8>;
 pub type Check = fn(Filter, u8, usize, &[u64]) -> bool;
 pub type LargestWeight = fn(&[u8]) -> u32;
+pub type Rearrange = fn(&mut [u8], &mut [u8], usize, &[u8]);
 pub type RankSum = fn([&[u8; 512]; 3], usize) -> (usize, [Duration; 2]);
 
 // What Rank answers and leaves in the mask of the kept points, what Judge answers and leaves in the witness buffers and in
-// that mask, and what Certify answers and leaves in the certificate.
+// that mask, what Certify answers and leaves in the certificate, and what Rearrange leaves as the set and the table.
 pub type Ranked = (Ranking, [u8; 512]);
 pub type Judged = (Judgement, [[u8; 512]; 3]);
 pub type Certified = (Result<(), u8>, Vec<u64>);
+pub type Rearranged = [Vec<u8>; 2];
 
 // What every byte of a lent mask is at entry.
 pub const UNWRITTEN: u8 = 0xa5;
@@ -119,4 +121,44 @@ pub fn weights(coefficients: &[u8], calls: usize) -> Vec<Contender<'_, u32>> {
         Box::new(move |_| (0..calls).map(|_| largest(black_box(coefficients))).fold(0, u32::max))
     };
     steps.into_iter().chain(counts).flatten().map(boxed).collect()
+}
+
+// A copy of the set and of the table.
+fn copies(filter: Filter) -> Rearranged {
+    [filter.set.to_vec(), filter.table.to_vec()]
+}
+
+// So many calls of Rearrange of the filter, each on what the one before left, last by the independent implementation.
+pub fn rearranges<'a>(filter: Filter<'a>, wiring: &'a [u8], calls: usize) -> Vec<Contender<'a, Rearranged>> {
+    let proved: Rearrange = |set, table, n, wiring| library::rearrange(set, table, n, wiring).expect("accepted");
+    let plain: Rearrange =
+        |set, table, n, wiring| independent::rearrange::rearrange(set, table, n, wiring).expect("accepted");
+    let boxed = |rearrange: Rearrange| -> Contender<Rearranged> {
+        Box::new(move |_| {
+            let [mut set, mut table] = copies(filter);
+            (0..calls).for_each(|_| rearrange(&mut set, &mut table, filter.n, black_box(wiring)));
+            [set, table]
+        })
+    };
+    [Some(proved), Some(rearrange::rearrange), c::REARRANGE, Some(plain)].into_iter().flatten().map(boxed).collect()
+}
+
+// The same, and in the second place as many calls of the proved Convert of both, which an even number of them restores.
+pub fn rearranges_and_convert<'a>(
+    filter: Filter<'a>,
+    wiring: &'a [u8],
+    calls: usize,
+) -> Vec<Contender<'a, Rearranged>> {
+    let mut contenders = rearranges(filter, wiring, calls);
+    let wanted = contenders[0](&mut []);
+    let convert = move |_: &mut [u64]| {
+        let mut tables = copies(filter);
+        for _ in 0..calls {
+            tables.iter_mut().for_each(|table| library::convert(table, filter.n).expect("accepted"));
+        }
+        assert_eq!(tables, copies(filter), "Convert an even number of times");
+        wanted.clone()
+    };
+    contenders.insert(1, Box::new(convert));
+    contenders
 }

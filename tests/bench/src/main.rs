@@ -12,15 +12,18 @@ mod largest_weight; // largest_weight.rs: the largest weight of an exponent in R
 #[cfg_attr(not(has_m4ri), path = "no_m4ri.rs")]
 mod m4ri; // m4ri.rs: the ranks by M4RI
 mod operations; // operations.rs: the operations on one filter, and their times
+mod rearrange; // rearrange.rs: Rearrange in Rust
 mod timing; // timing.rs: several contenders timed in one run
 
 use certificates::{Certificate, certificates};
-use contenders::{certifies, checks, checks_and_certify, judges, m4ri_steps, ranks, weights};
+use contenders::{
+    certifies, checks, checks_and_certify, judges, m4ri_steps, ranks, rearranges, rearranges_and_convert, weights,
+};
 use independent::filter::Filter;
 use independent::normal_form::weight;
 use independent::random::Random;
 use independent::samples::{kinds, mask_of, pairs};
-use operations::{NAMES, Subject, process_start};
+use operations::{NAMES, Subject, WIRING, process_start};
 use timing::{line, line_of, means, race};
 
 const RUNS: usize = 120;
@@ -29,6 +32,7 @@ const TABLES: u64 = 12;
 const CALLS: usize = 100; // in a row where one is too short to time
 const WRITE_LIMIT: f64 = 2.0; // of the time of Write over that of Read, on the longest file
 const CHECK_LIMIT: f64 = 1.0; // of the time of Check over that of Certify at the same side and degree
+const REARRANGE_LIMIT: f64 = 1.0; // of the time of Rearrange over that of Convert of two tables
 
 // The heads of the columns of times: proved, and of the others those that there are.
 fn heads(others: &[&str]) -> String {
@@ -115,6 +119,17 @@ fn compare_checks() {
     println!("Check of {} certificates, {yes} of them right: every contender gives the proved answer", answers.len());
 }
 
+// Rearrange of such filters by wirings drawn at random, once by each contender: the same set and table.
+fn compare_rearranges() {
+    let mut random = Random(7);
+    for (n, (for_set, for_table)) in kinds_of_every_n() {
+        let (set, table, wiring) = (random.set(n, for_set), random.table(n, for_table), random.wiring(n));
+        race(1, &[rearranges(Filter { n, set: &set, table: &table }, &wiring, 1)]);
+    }
+    let count = kinds_of_every_n().len();
+    println!("Rearrange of {count} filters of one to nine taps: every contender leaves the proved set and table");
+}
+
 // Every operation on a filter of nine taps, proved and independent.
 fn bench_operations(title: &str, set: &[u8], table: &[u8]) {
     let subject = Subject::new(9, set.to_vec(), table.to_vec());
@@ -160,6 +175,19 @@ fn bench_check(title: &str, set: &[u8], table: &[u8]) {
     println!("mean         {}", line(&means(&found)));
 }
 
+// Rearrange at n = 9 of the set and the table, beside Convert of both. Rearrange keeps to its limit.
+fn bench_rearrange(title: &str, set: &[u8], table: &[u8]) {
+    println!("Rearrange, n = 9, {title}, by {WIRING:?}; microseconds a call, least of {RUNS} runs of {CALLS} calls");
+    println!(
+        "Convert: the proved one, of both, ratio at most {REARRANGE_LIMIT}; Rust and C: no checks; other: the independent Rearrange"
+    );
+    println!("         {}", heads(&["Convert", "Rust", "C", "other"]));
+    let times = means(&race(RUNS, &[rearranges_and_convert(Filter { n: 9, set, table }, &WIRING, CALLS)]));
+    let one: Vec<f64> = times.iter().map(|time| time / CALLS as f64).collect();
+    println!("Rearrange{}", line_of(&one, 2));
+    assert!(one[0] <= REARRANGE_LIMIT * one[1], "Rearrange takes longer than its limit");
+}
+
 // Degree of the polynomial that has all 512 exponents, each of which it weighs: the time for one of them.
 fn bench_weight(all: &[u8]) {
     println!("Weight, n = 9, all 512 exponents; nanoseconds an exponent, least of {RUNS} runs of {CALLS} calls");
@@ -203,6 +231,7 @@ fn main() {
     compare_judges();
     compare_certifies();
     compare_checks();
+    compare_rearranges();
     bench_rank("all 512 points", &all);
     bench_rank("a random half", &half);
     bench_judgement("all 512 points", &all);
@@ -210,6 +239,7 @@ fn main() {
     bench_operations("all 512 points, a random table", &all, &half);
     bench_check("all 512 points, a random table", &all, &half);
     bench_longest_file(&all);
+    bench_rearrange("all 512 points, a random table", &all, &half);
     bench_weight(&all);
     bench_growth("n: all points, majority", (1..=9).map(|n| (n, mask_of(n, |_| true), Random(1).table(n, 0))));
     let sizes = [16, 32, 64, 128, 192, 256, 320, 384, 448, 512];

@@ -1,5 +1,5 @@
 // The operations on one filter, proved and by the independent implementation, each timed.
-use crate::contenders::{Certify, Judged, Ranked, UNWRITTEN};
+use crate::contenders::{Certify, Judged, Ranked, Rearranged, UNWRITTEN};
 use crate::timing::{Contender, means, race};
 use independent::check::check;
 use independent::filter::Filter;
@@ -7,6 +7,7 @@ use independent::filter_file::{Triple, read, write};
 use independent::judgement::{Judgement, certify, hand_over};
 use independent::normal_form::{convert, degree};
 use independent::rank::{Ranking, points_of, rank};
+use independent::rearrange::rearrange;
 use independent::report::judge;
 use independent::sheet::sheet;
 use program::{printed, run, sheet_program};
@@ -15,6 +16,7 @@ use std::process::Command;
 
 type Read = fn(&[u8], &mut [u8], &mut [u8]) -> Result<usize, u8>;
 type Write = fn(Filter, &mut [u8]) -> Result<usize, u8>;
+type Rearrange = fn(&mut [u8], &mut [u8], usize, &[u8]) -> Result<(), u8>;
 type Convert = fn(&mut [u8], usize) -> Result<(), u8>;
 type Degree = fn(&[u8], usize) -> Result<u32, u8>;
 type Rank = fn(&[u8], usize, usize, &mut [u64], &mut [u8]) -> Result<Ranking, u8>;
@@ -24,11 +26,14 @@ type HandOver = fn(usize, u8, &[u8], &[u8], &mut [u8]) -> usize;
 type Sheet = fn(&[u8]) -> String;
 
 // The names of the operations that are timed, in order.
-pub const NAMES: [&str; 10] =
-    ["Read", "Write", "Convert", "Degree", "Rank", "Judge", "Certify", "Check", "Hand over", "sheet"];
+pub const NAMES: [&str; 11] =
+    ["Read", "Write", "Rearrange", "Convert", "Degree", "Rank", "Judge", "Certify", "Check", "Hand over", "sheet"];
 
 // No file is longer.
 const FILE_MAX: usize = 2053;
+
+// The wiring of nine taps; the one of n taps has its entries up to n.
+pub const WIRING: [u8; 9] = [5, 9, 1, 7, 3, 8, 2, 6, 4];
 
 // A filter on a set with a point, its file, the coefficients of its table, and of what Judge answers and leaves the
 // degree, the side, the additions and the witness buffers.
@@ -113,6 +118,16 @@ impl Subject {
         }
     }
 
+    // Rearrange of the set and the table.
+    fn rearrange(&self, rearrange: Rearrange) -> impl Fn(&mut [u64]) -> Rearranged {
+        let wiring: Vec<u8> = WIRING.into_iter().filter(|tap| usize::from(*tap) <= self.n).collect();
+        move |_| {
+            let (mut set, mut table) = (self.set.clone(), self.table.clone());
+            rearrange(&mut set, &mut table, self.n, &wiring).expect("accepted");
+            [set, table]
+        }
+    }
+
     // Convert of the table.
     fn convert(&self, convert: Convert) -> impl Fn(&mut [u64]) -> Vec<u8> {
         move |_| {
@@ -174,10 +189,11 @@ impl Subject {
 
     // The least microseconds of each operation: of the proved one if the count is 1, and of the independent one besides
     // if it is 2.
-    pub fn times(&self, runs: usize, count: usize) -> [Vec<f64>; 10] {
+    pub fn times(&self, runs: usize, count: usize) -> [Vec<f64>; 11] {
         [
             timed(runs, count, [self.read(library::read), self.read(read)]),
             timed(runs, count, [self.write(library::write), self.write(write)]),
+            timed(runs, count, [self.rearrange(library::rearrange), self.rearrange(rearrange)]),
             timed(runs, count, [self.convert(library::convert), self.convert(convert)]),
             timed(runs, count, [self.degree(library::degree), self.degree(degree)]),
             timed(runs, count, [self.rank(library::rank), self.rank(rank)]),
