@@ -1,3 +1,4 @@
+#![tactic(auto)]
 // Bytes in a lent buffer: they are written from a place on, and all other bytes stay. The result of a function that writes
 // is the place behind what it wrote. `append` is `pub` for the crates that write texts and files, or copy into lent
 // buffers.

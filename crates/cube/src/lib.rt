@@ -1,3 +1,4 @@
+#![tactic(auto)]
 // Points and exponents of up to nine taps: docs/SPECIFICATION.md, 'Words'.
 ghost use Rattle.std.specs.Prelude.{◌≡◌, ◌≤◌, ◌<◌};
 ghost use Rattle.cube.specs.Cube.{taps, size as size_of, within as within_of, weight as weight_of};

@@ -1,3 +1,4 @@
+#![tactic(auto)]
 // What a filter is: a number of taps, a set of points and a table. The checks that operations share, and the parts:
 // docs/SPECIFICATION.md, 'Words' and 'Outcomes'.
 pub mod checks; // checks.rt: the checks that operations share

@@ -35,7 +35,7 @@ module _ (b : Bool) (x : Row) (c : ℕ) where
   -- the entries where column c is changed, or nothing
   entry_flip : (d : ℕ) → entry (flip b x c) d ≡ xor (entry x d) (b && entry (unit c) d)
   unfolding flip
-  entry_flip d = elim b [ true ↦ entry_add x (unit c) d | false ↦ rw xor_false ]
+  entry_flip d = elim b as (λ k. entry (flip k x c) d ≡ xor (entry x d) (k && entry (unit c) d)) [ true ↦ entry_add x (unit c) d | false ↦ rw xor_false ]
 
   -- the entry at the changed column
   pub flip_same : entry (flip b x c) c ≡ xor (entry x c) b
@@ -48,7 +48,7 @@ module _ (b : Bool) (x : Row) (c : ℕ) where
   -- the parities where one column is changed
   pub dot_flip : (w : Row) → dot (flip b x c) w ≡ xor (dot x w) (b && entry w c)
   unfolding flip
-  dot_flip w = elim b [ true ↦ simp (add_dot, dot_unit) | false ↦ rw xor_false ]
+  dot_flip w = elim b as (λ k. dot (flip k x c) w ≡ xor (dot x w) (k && entry w c)) [ true ↦ simp (add_dot, dot_unit) | false ↦ rw xor_false ]
 
   -- the parities with rows that are zero at the changed column stay
   pub flip_later : (rs : List Row) → Each (λ s. entry s c ≡ false) rs → Each (λ s. dot (flip b x c) s ≡ dot x s) rs

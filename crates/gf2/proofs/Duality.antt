@@ -8,8 +8,7 @@ use mathlib.Core.Path.{◌≡◌, refl, sym, ◌∙◌}
 use mathlib.Core.Bool.{Bool, true, false, false≢true}
 use mathlib.Core.List.{List, [], ◌∷◌}
 use mathlib.Core.Logic.{◌⊎◌, inl, inr}
-use Prim.Native.Nat.{zero}
-use Rattle.gf2.specs.Vector.{Row, add, dot, Zero, Each, SumOf, Orthogonal, Separates}
+use Rattle.gf2.specs.Vector.{Row, add, dot, Zero, SumOf, Orthogonal, Separates}
 use Rattle.gf2.proofs.Bits.{false_xor, xor_false, xor_self, xor_comm}
 use Rattle.gf2.proofs.Each.{each_map₂}
 use Rattle.gf2.proofs.Dot.{zero_cons, dot_add, add_dot, zero_linear, dot_linear}

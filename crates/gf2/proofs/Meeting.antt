@@ -2,7 +2,7 @@
 --   reduce_meets   a row is reduced as the kept rows are met
 --   take_step      one point more
 --   kept_of        a point is kept just if its row is no sum of rows of smaller points
-use mathlib.Core.Path.{◌≡◌, refl, sym, ap, subst}
+use mathlib.Core.Path.{◌≡◌, refl, sym, ap, ap₂, subst}
 use mathlib.Core.Logic.{◌↔◌, ◌⊎◌, inl, inr}
 use mathlib.Core.Bool.{Bool, true, false}
 use mathlib.Core.List.Memᴰ
@@ -61,7 +61,10 @@ split_at a (p ∷ ps) r m = go (Memᴰ.cases_cons m) (split_at a ps r.1)
   where
     go : (a ≡ p) ⊎ Memᴰ a ps → (Memᴰ a ps → (after : List ℕ) × (ps ≡ smaller a ps ++ (a ∷ after)))
         → (after : List ℕ) × ((p ∷ ps) ≡ smaller a (p ∷ ps) ++ (a ∷ after))
-    go (inl e) later = (ps, rw (e, le-ltb p p (omega arith), none_smaller p ps r.0))
+    go (inl e) later =
+        let none : smaller p (p ∷ ps) ≡ [] = rw (le-ltb p p (omega arith)) (none_smaller p ps r.0) in
+        let none_of_a : smaller a (p ∷ ps) ≡ [] = subst (λ q. smaller q (p ∷ ps) ≡ []) (sym e) none in
+        (ps, sym (ap₂ (λ x q. x ++ (q ∷ ps)) none_of_a e))
     go (inr i) later =
         let (after, e) = later i in
         (after, rw (lt-ltb p a (each_member (λ q. p < q) r.0 i)) (ap (λ l. p ∷ l) e))

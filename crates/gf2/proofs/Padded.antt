@@ -216,4 +216,4 @@ module _ (m : ℕ) (row : ℕ → Row) (short : (a : ℕ) → length (row a) ≤
 pub take_points_same : (row row' : ℕ → Row) (e : Elimination) (ps : List ℕ) → Each (λ a. row a ≡ row' a) ps → take_points row e ps ≡ take_points row' e ps
 unfolding take_points take_point
 take_points_same row row' e [] h = refl
-take_points_same row row' e (a ∷ ps) h = rw h.0 (take_points_same row row' _ ps h.1)
+take_points_same row row' e (a ∷ ps) h = rw h.0 (take_points_same row row' (take_point row' e a) ps h.1)

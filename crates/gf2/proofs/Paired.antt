@@ -5,7 +5,7 @@
 --   paired_at     what holds of each pair and of the defaults holds at each place
 use mathlib.Core.List.{List, [], ◌∷◌, ◌++◌}
 use Prim.Native.Nat.{ℕ, zero, suc}
-use lib.ListN.{length, get_or}
+use lib.ListN.{get_or}
 
 -- R holds of the members of two lists of one length, place by place
 abbrev pub Paired : {A B : Type 0} → (A → B → Type 0) → List A → List B → Type 0

@@ -1,3 +1,4 @@
+#![tactic(auto)]
 // The graded order: docs/SPECIFICATION.md, 'Graded order'. One constant table lists all 512 exponents by weight, and by
 // number within a weight.
 ghost use Rattle.std.specs.Prelude.{◌≡◌, ◌<◌, length, get_or};

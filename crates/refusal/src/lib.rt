@@ -1,3 +1,4 @@
+#![tactic(auto)]
 // What an operation refuses, and its number: docs/SPECIFICATION.md, 'Refusals'.
 ghost use Rattle.std.specs.Prelude.{◌≡◌};
 ghost use Rattle.refusal.specs.Refusal.{number_of};

@@ -5,15 +5,14 @@ use native.Mathlib.Omega.{arith}
 use lib.Bits.{bit_and, and_le_l, and_le_r}
 use lib.Pow.{shr_le}
 use Rattle.cube.proofs.NibbleCounts.{pair_sums_le, nibble_counts, weight_counted}
-use Rattle.cube.proofs.weight.Statement.{statement}
-use Rattle.cube.proofs.weight.Tie as tie
+use Rattle.cube.proofs.weight.Goals as goal
 
-returns : tie.Need-returns
+pub returns : goal.returns
 unfolding nibble_counts
 returns c = weight_counted c.args.u.0 (omega arith)
 
-sub-pairs : tie.Need-overflow-sub-pairs
-sub-pairs c = le_trans (and_le_l _ _) (shr_le _ 1)
+pub overflow_sub-pairs : goal.overflow_sub-pairs
+overflow_sub-pairs c = le_trans (and_le_l _ _) (shr_le _ 1)
 
 -- no sum leaves 16 bits
 module _ (u : ℕ) where
@@ -36,17 +35,14 @@ module _ (u : ℕ) where
   result-le : bit_and sums 0xf + sums / 2 ^ 4 ≤ 2 * 0xff
   result-le = omega (arith, and_le_r sums 0xf, sums-le)
 
-add-nibbles : tie.Need-overflow-add-nibbles
+pub overflow_add-nibbles : goal.overflow_add-nibbles
 unfolding nibble_counts
-add-nibbles c = record { fits = omega (arith, nibbles-le c.args.u.0) }
+overflow_add-nibbles c = record { fits = omega (arith, nibbles-le c.args.u.0) }
 
-add-sums : tie.Need-overflow-add-sums
+pub overflow_add-sums : goal.overflow_add-sums
 unfolding nibble_counts
-add-sums c = record { fits = omega (arith, sums-le c.args.u.0) }
+overflow_add-sums c = record { fits = omega (arith, sums-le c.args.u.0) }
 
-add-result : tie.Need-overflow-add-result
+pub overflow_add-result : goal.overflow_add-result
 unfolding nibble_counts
-add-result c = record { fits = omega (arith, result-le c.args.u.0) }
-
-pub weight-spec : {M : Type 1} → statement M
-weight-spec = tie.close (tie.spec sub-pairs add-nibbles add-sums add-result returns)
+overflow_add-result c = record { fits = omega (arith, result-le c.args.u.0) }

@@ -1,5 +1,4 @@
 -- The test of a mask is that of the largest byte of its points and of the largest past them (by-largest).
-use borrow.Author.Rules.{rules}
 use borrow.Author.Tests.{le-leb, lt-leb, ne_eqb}
 use mathlib.Core.Path.{◌≡◌, refl, sym, ap, ◌∙◌}
 use mathlib.Core.Bool.{◌&&◌, and-true, and_assoc}
@@ -13,8 +12,11 @@ use lib.Pow.{pow_mono}
 use lib.Seq.{take_all, length-take-le}
 use Rattle.cube.specs.NumberLists.{largest}
 use Rattle.cube.specs.Mask.{bits_then_zeros}
-use Rattle.cube.proofs.mask.well_formed.Statement.{statement}
-use Rattle.cube.proofs.mask.well_formed.Tie as tie
+use Rattle.cube.proofs.mask.well_formed.Goals as goal
+use Rattle.cube.proofs.mask.well_formed.Goals.{After-largest-2}
+
+pub slice_bounds-largest-end : goal.slice_bounds-largest-end
+slice_bounds-largest-end c = sym (length-take-le _ _ (omega arith))
 
 -- two numbers are at most 1 just if the larger is
 max-bit : (x y : ℕ) → (leb x 1 && leb y 1) ≡ leb (max x y) 1
@@ -55,44 +57,24 @@ at_most n h = elim (dec_lt n 64) [
   | no g ↦ let e = h.1 (omega arith) in (omega (arith, e, pow_mono {i = 64} {j = n} (omega arith)), λ l. absurd (omega (arith, e)))
 ]
 
-returns : tie.Need-returns
-returns c =
-    let s = c.before.before in
-    let a = s.before.before.args in
-    ap (λ r. leb r 1) c.largest.ensures ∙ sym (all_points (2 ^ a.n) a.mask.now (omega (arith, (at_most a.n s.size.ensures).0)))
+pub returns-then-mask-points : goal.returns-then-mask-points
+returns-then-mask-points c =
+    let a = c.args in
+    ap (λ r. leb r 1) c.largest.ensures ∙ sym (all_points (2 ^ a.n) a.mask.now (omega (arith, (at_most a.n c.size-points.ensures).0)))
 
 -- more bytes than points: the test of the others is left
-others : (c : tie.After-largest2) → let s = c.before.before.before in
-    let a = s.before.before.args in
-    bits_then_zeros (2 ^ a.n) a.mask.now ≡ (leb c.largest2.result 1 && eqb (largest (λ x. x) (drop s.size.result a.mask.now)) 0)
+others : (c : After-largest-2) →
+    let a = c.args in
+    bits_then_zeros (2 ^ a.n) a.mask.now ≡ (leb c.largest-2.result 1 && eqb (largest (λ x. x) (drop c.size-points.result a.mask.now)) 0)
 others c =
-    let s = c.before.before.before in
-    let a = s.before.before.args in
-    rw (← (at_most a.n s.size.ensures).1 (omega arith), c.largest2.ensures) (by-largest s.size.result a.mask.now)
+    let a = c.args in
+    rw (← (at_most a.n c.size-points.ensures).1 (omega arith), c.largest-2.ensures) (by-largest c.size-points.result a.mask.now)
 
-returns-2 : tie.Need-returns-2
-returns-2 c = sym (others c.before ∙ rw (lt-leb c.before.largest2.result 1 (omega arith)))
+pub returns-then-largest-gt1 : goal.returns-then-largest-gt1
+returns-then-largest-gt1 c = sym (others (goal.at.returns-then-largest-gt1 c).After-largest-2 ∙ rw (lt-leb c.largest-2.result 1 (omega arith)))
 
-returns-3 : tie.Need-returns-3
-returns-3 c =
-    let e = c.before.before in
-    let s = e.before.before.before.before in
-    let b = s.before.before.args.mask.now in
-    let all = take_all (length b - s.size.result) (drop s.size.result b) (omega (arith, length-drop s.size.result b)) in
-    ap (λ r. eqb r 0) (c.largest3.ensures ∙ ap (largest (λ x. x)) all) ∙ sym (others e.before ∙ rw (le-leb e.before.largest2.result 1 (omega arith)))
-
-pub well-formed-spec : {M : Type 1} → statement M
-well-formed-spec =
-    tie.close
-    (tie.spec
-    (λ c κs. search rules)
-    (λ c κs. search rules)
-    returns
-    (λ c. sym (length-take-le _ _ (omega arith)))
-    (λ c κs. search rules)
-    returns-2
-    (λ c. search rules)
-    (λ c. search rules)
-    (λ c. search rules)
-    (λ c κs. search rules)
-    returns-3)
+pub returns : goal.returns
+returns c =
+    let b = c.args.mask.now in
+    let all = take_all (length b - c.size-points.result) (drop c.size-points.result b) (omega (arith, length-drop c.size-points.result b)) in
+    ap (λ r. eqb r 0) (c.largest-3.ensures ∙ ap (largest (λ x. x)) all) ∙ sym (others (goal.at.returns c).After-largest-2 ∙ rw (le-leb c.largest-2.result 1 (omega arith)))

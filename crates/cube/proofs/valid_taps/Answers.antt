@@ -1,0 +1,8 @@
+use borrow.Author.Tests.{le-leb, lt-leb}
+use Rattle.cube.proofs.valid_taps.Goals as goal
+
+pub returns-then-n-lt1 : goal.returns-then-n-lt1
+returns-then-n-lt1 c = simp (lt-leb _ _ c.if-n-lt1.true)
+
+pub returns : goal.returns
+returns c = simp (le-leb _ _ c.if-n-lt1.false)
