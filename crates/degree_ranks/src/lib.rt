@@ -24,7 +24,7 @@ use immunity::{FirstDegree, Ranks};
 use matrix::tally::eliminate_tallied;
 use order::columns::column_count;
 use packed::COLUMNS;
-use packed::basis::{count_below, sum_below_lem};
+use packed::basis::{count_below, sum_below};
 
 // The number of degrees of nine taps.
 pub const DEGREES: usize = 10;
@@ -96,7 +96,7 @@ fn mask_ranks(
     while d <= n {
         let count = columns[d] as usize;
         ranks[d] = count_below(pivots, kept, count) as u16;
-        additions += sum_below_lem(&tally, count);
+        additions += sum_below(&tally, count);
         d += 1;
     }
     MaskRanks {

@@ -99,7 +99,7 @@ pub fn count_below(pivots: &[u16], kept: usize, columns: usize) -> usize
 }
 
 // The sum of the first `columns` numbers of `tally`.
-pub fn sum_below_lem(tally: &[u32], columns: usize) -> u32
+pub fn sum_below(tally: &[u32], columns: usize) -> u32
     requires { (length tally.now ≡ 512) × (columns ≤ 512) × AtMost 262144 tally.now }
     ensures { (result ≡ sum_to columns tally.now) × (result ≤ columns * 262144) }
 {

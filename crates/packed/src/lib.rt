@@ -1,3 +1,4 @@
+#![tactic(auto)]
 // Rows packed into a lent workspace, and what an elimination does with them: docs/SPECIFICATION.md, 'Elimination'; and
 // single rows outside it. The rows are any rows. The functions that other crates use are kernels for the crates above.
 pub mod row; // row.rt: the rows of the workspace, one row at a time

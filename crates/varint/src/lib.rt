@@ -1,3 +1,4 @@
+#![tactic(auto)]
 // Varints (LEB128) of one or two groups of seven bits, in the shortest form. The contract of the work calls them house
 // numbers: docs/SPECIFICATION.md, 'Terms' and 'Filter file'.
 ghost use Rattle.std.specs.Prelude.{◌≡◌, ◌+◌, ◌≤◌, ◌<◌, length, drop};

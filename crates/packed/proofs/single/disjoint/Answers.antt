@@ -2,7 +2,7 @@
 use mathlib.Core.Path.{◌≡◌, sym, ap, ◌∙◌}
 use mathlib.Core.Bool.{true, false}
 use mathlib.Core.List.{List, ◌∷◌}
-use Prim.Native.Nat.{ℕ, suc, ◌+◌, ◌-◌, ◌^◌, ◌≤◌, ◌<◌}
+use Prim.Native.Nat.{ℕ, suc, ◌+◌, ◌^◌, ◌<◌}
 use native.Mathlib.Numerals.{add-one}
 use native.Mathlib.Omega.{arith}
 use lib.Bits.{bit_and, and_le_r}
@@ -13,12 +13,8 @@ use Rattle.gf2.specs.Cut.{common}
 use Rattle.packed.specs.Packed.{unpack}
 use Rattle.packed.proofs.Bitwise.{pairs, length_pairs, get_or_pairs, and_bitwise, unpack_pairs}
 use Rattle.packed.proofs.ZeroRows.{zero_word, some_word}
-use Rattle.packed.proofs.single.disjoint.Statement.{statement}
-use Rattle.packed.proofs.single.disjoint.Tie as tie
-
--- the common ones are zero just if those from number k on are
-abbrev Rest : List ℕ → List ℕ → ℕ → Type 0
-Rest x y k = is_zero (common (unpack x) (unpack y)) ≡ is_zero (unpack (drop k (pairs bit_and x y)))
+use Rattle.packed.proofs.single.disjoint.Invariants.{Rest}
+use Rattle.packed.proofs.single.disjoint.Goals as goal
 
 module _ (x y : List ℕ) (lx : length x ≡ 8) (ly : length y ≡ 8) where
   -- the common ones, number by number
@@ -53,50 +49,21 @@ module _ (x y : List ℕ) (lx : length x ≡ 8) (ly : length y ≡ 8) where
   unfolding unpack is_zero
   none k e inv = inv ∙ ap (λ u. is_zero (unpack u)) (drop_of_length-le both {i = k} (omega (arith, length_pairs bit_and x y same)))
 
-abbrev invariant-loop : tie.invariant-loop
-invariant-loop x y k₀ k = (k ≤ 8) × Rest x y k
+pub loop-k-init : goal.loop-k-init
+loop-k-init c = (omega arith, all c.args.x.now c.args.y.now c.requires.0 c.requires.1)
 
-abbrev decreases-loop : tie.decreases-loop
-decreases-loop x y k₀ k = 8 - k
+pub returns-then-x-k-ne0 : goal.returns-then-x-k-ne0
+returns-then-x-k-ne0 c =
+    let x = c.args.x.now in
+    let y = c.args.y.now in
+    let k = c.loop-k.k in
+    let small : bit_and (get_or x k 0) (get_or y k 0) < 2 ^ 64 = omega (arith, c.shared_slice_known-in-loop-k-1.given k, and_le_r (get_or x k 0) (get_or y k 0)) in
+    sym (found x y c.requires.0 c.requires.1 k (omega arith) c.loop-k.invariant.1 (omega arith) small)
 
-loop-holds : tie.Need-loop-init invariant-loop decreases-loop
-loop-holds c = (omega arith, all c.args.x.now c.args.y.now c.requires.0 c.requires.1)
+pub loop-k-preserved : goal.loop-k-preserved
+loop-k-preserved c =
+    (omega arith, passed c.args.x.now c.args.y.now c.requires.0 c.requires.1 c.loop-k.k (omega arith) c.loop-k.invariant.1 c.if-x-k-ne0.false)
 
-returns : tie.Need-returns invariant-loop decreases-loop
+pub returns : goal.returns
 returns c =
-    let l = c.before.before.before.before in
-    let s = l.before in
-    let x = s.args.x.now in
-    let y = s.args.y.now in
-    let k = l.loop.k in
-    let small : bit_and (get_or x k 0) (get_or y k 0) < 2 ^ 64 = omega (arith, c.before.shared-slice-known2.given k, and_le_r (get_or x k 0) (get_or y k 0)) in
-    sym (found x y s.requires.0 s.requires.1 k (omega arith) l.loop.invariant.1 (omega arith) small)
-
-loop-again : tie.Need-loop-preserved invariant-loop decreases-loop
-loop-again c =
-    let l = c.before.before.before.before in
-    let s = l.before in
-    (omega arith, passed s.args.x.now s.args.y.now s.requires.0 s.requires.1 l.loop.k (omega arith) l.loop.invariant.1 c.if1.false)
-
-returns-2 : tie.Need-returns-2 invariant-loop decreases-loop
-returns-2 c =
-    let l = c.before in
-    let s = l.before in
-    sym (none s.args.x.now s.args.y.now s.requires.0 s.requires.1 l.loop.k (omega arith) l.loop.invariant.1)
-
-pub disjoint-spec : {M : Type 1} → statement M
-disjoint-spec =
-    tie.close
-    (tie.spec
-    invariant-loop
-    decreases-loop
-    loop-holds
-    (λ c. omega arith)
-    (λ c. omega arith)
-    (λ c. omega arith)
-    (λ c. omega arith)
-    returns
-    (λ c. omega arith)
-    (λ c. omega arith)
-    loop-again
-    returns-2)
+    sym (none c.args.x.now c.args.y.now c.requires.0 c.requires.1 c.loop-k.k (omega arith) c.loop-k.invariant.1)

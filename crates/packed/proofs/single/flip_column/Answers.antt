@@ -1,4 +1,3 @@
-use borrow.Author.Rules.{rules}
 use mathlib.Core.Path.{◌≡◌, ap, ◌∙◌}
 use mathlib.Core.Bool.{true}
 use mathlib.Core.List.{List}
@@ -10,8 +9,7 @@ use Rattle.gf2.specs.Solve.{flip}
 use Rattle.packed.specs.Packed.{unpack}
 use Rattle.packed.proofs.Words.{shifted}
 use Rattle.packed.proofs.Parity.{unpack_flip}
-use Rattle.packed.proofs.single.flip_column.Statement.{statement}
-use Rattle.packed.proofs.single.flip_column.Tie as tie
+use Rattle.packed.proofs.single.flip_column.Goals as goal
 
 -- the bit that is changed is the column's
 changed : (x : List ℕ) (c : ℕ) → length x ≡ 8 → c < 512
@@ -23,12 +21,6 @@ changed x c l h =
     ap (λ (n : ℕ). unpack (set x (c / 64) (bit_xor (get_or x (c / 64) 0) n))) one
     ∙ unpack_flip x (c / 64) (c % 64) (omega arith) m ∙ ap (flip true (unpack x)) e
 
-returns : tie.Need-returns
+pub returns : goal.returns
 returns c =
-    let s = c.before in
-    (simp length-set s.requires.0, changed s.args.x.now s.args.c s.requires.0 s.requires.1)
-
-pub flip-column-spec : {M : Type 1} → statement M
-flip-column-spec =
-    tie.close
-    (tie.spec (λ c. search rules) (λ c. search rules) (λ c. search rules) (λ c. search rules) (λ c. search rules) returns)
+    (simp length-set c.requires.0, changed c.args.x.now c.args.c c.requires.0 c.requires.1)

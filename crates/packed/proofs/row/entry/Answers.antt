@@ -9,8 +9,7 @@ use Rattle.gf2.specs.Steps.{row_of}
 use Rattle.packed.specs.Packed.{odd, unpack, unpacked, words}
 use Rattle.packed.proofs.Words.{entry_unpack}
 use Rattle.packed.proofs.Rows.{row_at, get_d_words}
-use Rattle.packed.proofs.row.entry.Statement.{statement}
-use Rattle.packed.proofs.row.entry.Tie as tie
+use Rattle.packed.proofs.row.entry.Goals as goal
 
 -- the bit that is read is the column's entry
 bit_is : (ws : List ℕ) (row c : ℕ) → row < 1024 → c < 512 → odd (get_or ws (row * 8 + c / 64) 0 / 2 ^ (c % 64)) ≡ entry (row_of (unpacked ws) row) c
@@ -21,10 +20,5 @@ bit_is ws row c h k =
     ∙ entry_unpack (words ws row) (c / 64) (c % 64) (omega arith)
     ∙ ap (λ (x : ℕ). odd (x / 2 ^ (c % 64))) (get_d_words ws row (c / 64) (omega arith)))
 
-returns : tie.Need-returns
-returns c = bit_is c.before.args.ws.now c.before.args.row c.before.args.c (search rules) (search rules)
-
-pub entry_spec : {M : Type 1} → statement M
-entry_spec =
-    tie.close
-    (tie.spec (λ c. search rules) (λ c. search rules) (λ c. search rules) (λ c. search rules) (λ c. search rules) returns)
+pub returns : goal.returns
+returns c = bit_is c.args.ws.now c.args.row c.args.c (search rules) (search rules)

@@ -1,4 +1,3 @@
-use borrow.Author.Rules.{rules}
 use mathlib.Core.Path.{◌≡◌, sym, ap, ap₂, ◌∙◌}
 use mathlib.Core.Bool.{true}
 use mathlib.Core.List.{List}
@@ -11,8 +10,7 @@ use Rattle.gf2.specs.Steps.{row_of}
 use Rattle.packed.specs.Packed.{unpack, unpacked, words}
 use Rattle.packed.proofs.Words.{unpack_or, shifted}
 use Rattle.packed.proofs.Rows.{length_words, get_d_words, row_at, rows_set}
-use Rattle.packed.proofs.row.set_entry.Statement.{statement}
-use Rattle.packed.proofs.row.set_entry.Tie as tie
+use Rattle.packed.proofs.row.set_entry.Goals as goal
 
 -- the bit that is put in is the column's entry
 one_in : (ws : List ℕ) (row c : ℕ) → length ws ≡ 8192 → row < 1024 → c < 512
@@ -29,12 +27,6 @@ one_in ws row c l h k =
     ∙ ap (λ (x : ℕ). set (unpacked ws) row (unpack (set u (c / 64) (bit_or x (2 ^ (c % 64)))))) (sym (get_d_words ws row (c / 64) q))
     ∙ ap (set (unpacked ws) row) (unpack_or u (c / 64) (c % 64) n m ∙ ap₂ (λ (v : Row) (i : ℕ). set v i true) (sym (row_at 1024 ws row h)) e)
 
-returns : tie.Need-returns
+pub returns : goal.returns
 returns c =
-    let s = c.before in
-    one_in s.args.ws.now s.args.row s.args.c s.requires.0 s.requires.1 s.requires.2
-
-pub set-entry-spec : {M : Type 1} → statement M
-set-entry-spec =
-    tie.close
-    (tie.spec (λ c. search rules) (λ c. search rules) (λ c. search rules) (λ c. search rules) (λ c. search rules) (λ c. search rules) (λ c. search rules) (λ c. search rules) returns)
+    one_in c.args.ws.now c.args.row c.args.c c.requires.0 c.requires.1 c.requires.2
