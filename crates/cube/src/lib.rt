@@ -12,11 +12,11 @@ pub const TAPS_MAX: usize = 9;
 pub const POINTS: usize = 512;
 
 // A point of the cube.
-#[derive(Drop)]
+#[derive(Clone, Copy)]
 pub struct Point(pub u16);
 
 // The ones of an exponent name the variables of one monomial.
-#[derive(Drop)]
+#[derive(Clone, Copy)]
 pub struct Exponent(pub u16);
 
 // Whether `n` is a number of taps.

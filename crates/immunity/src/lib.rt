@@ -5,7 +5,7 @@
 pub const CERTIFICATE: usize = 4096;
 
 // The ranks of the set, of part 1 and of part 0 at one degree.
-#[derive(Drop)]
+#[derive(Clone, Copy)]
 pub struct Ranks {
     pub set: u16,
     pub one: u16,
@@ -14,7 +14,7 @@ pub struct Ranks {
 
 // The first degree at which something is so, or none: a side's own degree, at which the rank of its part is not that of
 // the set, or a mark.
-#[derive(Drop)]
+#[derive(Clone, Copy)]
 pub enum FirstDegree {
     At(usize),
     None,

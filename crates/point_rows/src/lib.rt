@@ -1,3 +1,4 @@
+#![tactic(auto)]
 // The rows of points: docs/SPECIFICATION.md, 'Elimination', the matrix. Each is put in its place in the workspace, with
 // its columns in an order of the exponents.
 ghost use Rattle.std.specs.Prelude.{◌≡◌, ◌+◌, ◌≤◌, ◌<◌, length, set, take, drop};

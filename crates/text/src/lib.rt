@@ -1,3 +1,4 @@
+#![tactic(auto)]
 // Text in a lent buffer: numbers and fields are written from a place on, and all other bytes stay. The result of
 // each function is the place behind what it wrote. The functions are `pub` for the crates of the sheet alone:
 // docs/SPECIFICATION.md, 'Sheet'.

@@ -1,3 +1,4 @@
+#![tactic(auto)]
 // Wirings: docs/SPECIFICATION.md, 'Words'. Here stands the test of a wiring; specs/Wiring.antt has what a wiring makes of
 // points and of masks.
 ghost use Rattle.std.specs.Prelude.{◌≡◌};

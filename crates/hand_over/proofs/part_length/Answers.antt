@@ -1,4 +1,3 @@
-use borrow.Author.Rules.{rules}
 use mathlib.Core.Path.{◌≡◌, sym, ap, ◌∙◌}
 use mathlib.Core.Bool.{Bool, true, false, ◌&&◌}
 use Prim.Native.Nat.{ℕ, ◌≤◌}
@@ -9,8 +8,7 @@ use borrow.Author.Tests.{eqb-true}
 use Rattle.cube.proofs.Listed.{and_both}
 use Rattle.cube.proofs.Taps.{taps_range}
 use Rattle.hand_over.specs.HandOver.{right, length_if}
-use Rattle.hand_over.proofs.part_length.Statement.{statement}
-use Rattle.hand_over.proofs.part_length.Tie as tie
+use Rattle.hand_over.proofs.part_length.Goals as goal
 
 -- what the tests show
 right-shows : (n side k l : ℕ) → right n side k l ≡ true → (k ≡ 512) × (l ≡ 512) × (n ≤ 9)
@@ -24,20 +22,16 @@ right-shows n side k l e =
 taps-same : (side k l : ℕ) {t t' r : Bool} → t ≡ t' → (eqb k 512 && eqb l 512 && t && leb side 1) ≡ r → (eqb k 512 && eqb l 512 && t' && leb side 1) ≡ r
 taps-same side k l e h = sym (ap (λ x. eqb k 512 && eqb l 512 && x && leb side 1) e) ∙ h
 
-returns : tie.Need-returns
-returns c =
-    let then = c.before in
-    let a = then.before.before.args in
-    let e : right a.n a.side a.one a.zero ≡ true = taps-same a.side a.one a.zero then.before.valid-taps.ensures then.if1.true in
+pub returns-then-one-zero : goal.returns-then-one-zero
+returns-then-one-zero c =
+    let a = c.args in
+    let e : right a.n a.side a.one a.zero ≡ true = taps-same a.side a.one a.zero c.valid_taps.ensures c.if-one-zero.true in
     let (one, zero, few) = right-shows a.n a.side a.one a.zero e in
     let all = c.size.ensures.0 (omega arith) in
     (all ∙ sym (ap (λ b. length_if b a.n) e), omega (arith, all, pow_mono few), omega (arith, all, pow_mono few))
 
-returns-2 : tie.Need-returns-2
-returns-2 c =
-    let a = c.before.before.args in
-    let e : right a.n a.side a.one a.zero ≡ false = taps-same a.side a.one a.zero c.before.valid-taps.ensures c.if1.false in
+pub returns : goal.returns
+returns c =
+    let a = c.args in
+    let e : right a.n a.side a.one a.zero ≡ false = taps-same a.side a.one a.zero c.valid_taps.ensures c.if-one-zero.false in
     (sym (ap (λ b. length_if b a.n) e), omega arith, omega arith)
-
-pub part-length-spec : {M : Type 1} → statement M
-part-length-spec = tie.close (tie.spec (λ c κs. search rules) (λ c κs. search rules) returns returns-2)
