@@ -1,3 +1,4 @@
+#![tactic(auto)]
 // Polynomials in up to nine taps and their algebraic normal form: docs/SPECIFICATION.md, 'Normal form'.
 
 pub mod convert; // convert.rt: Convert, from a table to its coefficients and back

@@ -14,8 +14,7 @@ use Rattle.refusal.specs.declared.verdict.Verdict.TheVariants as verdicts
 use Rattle.refusal.proofs.Verdicts.{passed_all, verdict_refuses, verdict_passes}
 use Rattle.polynomial.specs.Degree.{exponents, degree_checks, degree_outcome, DegreeContract}
 use Rattle.polynomial.specs.declared.degree.DegreeAnswer.TheVariants.{Refused, Accepted}
-use Rattle.polynomial.proofs.degree.degree.Statement.{statement}
-use Rattle.polynomial.proofs.degree.degree.Tie as tie
+use Rattle.polynomial.proofs.degree.degree.Goals as goal
 
 module _ (n : ℕ) (b : List ℕ) where
   -- checks that pass show the length
@@ -32,28 +31,14 @@ module _ (n : ℕ) (b : List ℕ) where
   unfolding degree_outcome
   accepts e h = record { answers = ap accepted h ∙ sym (verdict_passes (degree_checks n b) _ e) }
 
-largest-weight-requires : tie.Need-largest-weight-requires
-largest-weight-requires c κs =
-    let k = c.before.before in
-    let a = k.before.before.args in
-    long a.n a.coefficients.now (sym k.degree-checks.ensures ∙ c.enum_told.given.1)
+pub largest_weight-requires : goal.largest_weight-requires
+largest_weight-requires c =
+    let a = c.args in
+    long a.n a.coefficients.now (sym c.in-Passed.ensures)
 
-returns : tie.Need-returns
-returns c = let x = c.before in let k = x.before.before in refuses _ _ (sym k.degree-checks.ensures ∙ x.x.given.1)
+pub returns-in-Refused : goal.returns-in-Refused
+returns-in-Refused c = refuses _ _ (sym c.in-Refused.ensures)
 
-returns-2 : tie.Need-returns-2
-returns-2 c =
-    let p = c.before in
-    let k = p.before.before in
-    accepts _ _ (sym k.degree-checks.ensures ∙ p.enum_told.given.1) c.largest-weight.ensures
-
-pub degree-spec : {M : Type 1} → statement M
-degree-spec =
-    tie.close
-    (tie.spec
-    (λ c κs. search rules)
-    (λ c. search rules)
-    (λ c. search rules)
-    largest-weight-requires
-    returns
-    returns-2)
+pub returns-in-Passed : goal.returns-in-Passed
+returns-in-Passed c =
+    accepts _ _ (sym c.in-Passed.ensures) c.largest_weight.ensures
