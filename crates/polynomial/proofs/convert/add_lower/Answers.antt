@@ -1,9 +1,7 @@
-use mathlib.Core.Path.{◌≡◌, refl}
-use Prim.Native.Nat.{◌-◌, ◌≤◌}
+use mathlib.Core.Path.{refl}
 use native.Mathlib.Omega.{arith}
-use lib.ListN.{length, length-set}
-use lib.Seq.{paste}
-use Rattle.polynomial.proofs.Lower.{sums, lower_start, lower_turn, lower_end}
+use lib.ListN.{length-set}
+use Rattle.polynomial.proofs.Lower.{lower_start, lower_turn, lower_end}
 use Rattle.polynomial.proofs.convert.add_lower.Goals as goal
 
 pub loop-i-init : goal.loop-i-init

@@ -1,9 +1,8 @@
-use mathlib.Core.Path.{◌≡◌, refl}
+use mathlib.Core.Path.{◌≡◌}
 use Prim.Native.Nat.{◌-◌, ◌≤◌}
-use native.Mathlib.Omega.{arith}
-use lib.ListN.{length, length-set}
+use lib.ListN.{length}
 use lib.Seq.{paste}
-use Rattle.polynomial.proofs.Lower.{sums, lower_start, lower_turn, lower_end}
+use Rattle.polynomial.proofs.Lower.{sums}
 use Rattle.polynomial.proofs.convert.add_lower.Given as goal
 
 abbrev pub invariant-loop-i : goal.invariant-loop-i

@@ -1,5 +1,4 @@
-use borrow.Author.Rules.{rules}
-use mathlib.Core.Path.{sym, ◌∙◌}
+use mathlib.Core.Path.{sym}
 use Rattle.polynomial.proofs.Converted.{convert_refuses}
 use Rattle.polynomial.proofs.convert.convert.Goals as goal
 

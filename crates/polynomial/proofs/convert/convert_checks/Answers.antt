@@ -1,4 +1,3 @@
-use borrow.Author.Rules.{rules}
 use Rattle.refusal.proofs.Verdicts.{from_same}
 use Rattle.filter.specs.Checks.{taps_of, mask_of}
 use Rattle.polynomial.proofs.convert.convert_checks.Goals as goal

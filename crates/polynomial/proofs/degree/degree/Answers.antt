@@ -1,5 +1,4 @@
 -- A broken check is the refusal answered; checks that pass give the length that largest_weight asks for, and its result is the degree answered.
-use borrow.Author.Rules.{rules}
 use mathlib.Core.Path.{◌≡◌, sym, ap, ◌∙◌}
 use mathlib.Core.List.{List}
 use Prim.Native.Nat.{ℕ}

@@ -1,15 +1,12 @@
 -- The loop's invariant: the largest weight of all marked exponents is the larger of `most` and the largest weight of those from i on.
 use mathlib.Core.Path.{◌≡◌, ap}
 use mathlib.Core.List.{List}
-use mathlib.Core.Logic.{⊎_elim}
-use Prim.Native.Nat.{ℕ, ◌+◌, ◌-◌, ◌≤◌, ◌<◌, max}
+use Prim.Native.Nat.{ℕ, ◌+◌, ◌<◌, max}
 use lib.ListN.{length, get_or}
 use native.Mathlib.Omega.{arith}
-use borrow.Author.Rules.{rules}
 use Rattle.cube.specs.NumberLists.{largest}
 use Rattle.cube.specs.Cube.{weight}
 use Rattle.cube.proofs.Masks.{marked_from, marked_all, marked_here, marked_later, marked_none}
-use Rattle.polynomial.specs.Degree.{exponents}
 use Rattle.polynomial.proofs.degree.largest_weight.Goals as goal
 use Rattle.polynomial.proofs.degree.largest_weight.Goals.{else-coefficients-i-eq1, then-coefficients-i-eq1}
 

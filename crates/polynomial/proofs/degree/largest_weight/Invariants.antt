@@ -1,13 +1,8 @@
-use mathlib.Core.Path.{◌≡◌, ap}
-use mathlib.Core.List.{List}
-use mathlib.Core.Logic.{⊎_elim}
-use Prim.Native.Nat.{ℕ, ◌+◌, ◌-◌, ◌≤◌, ◌<◌, max}
-use lib.ListN.{length, get_or}
-use native.Mathlib.Omega.{arith}
-use borrow.Author.Rules.{rules}
+use mathlib.Core.Path.{◌≡◌}
+use Prim.Native.Nat.{◌-◌, ◌≤◌, max}
 use Rattle.cube.specs.NumberLists.{largest}
 use Rattle.cube.specs.Cube.{weight}
-use Rattle.cube.proofs.Masks.{marked_from, marked_all, marked_here, marked_later, marked_none}
+use Rattle.cube.proofs.Masks.{marked_from}
 use Rattle.polynomial.specs.Degree.{exponents}
 use Rattle.polynomial.proofs.degree.largest_weight.Given as goal
 
