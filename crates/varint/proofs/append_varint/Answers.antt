@@ -1,5 +1,4 @@
 -- A number of one group is one byte (varint_short), another two, one behind the other (varint_long).
-use borrow.Author.Rules.{rules}
 use mathlib.Core.Path.{refl, sym, ap}
 use native.Mathlib.Omega.{arith}
 use lib.ListN.{length, length-set}
