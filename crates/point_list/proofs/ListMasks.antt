@@ -13,7 +13,7 @@ use native.Mathlib.Numerals.{add-one}
 use lib.Dec.{eqb}
 use lib.ListN.{length}
 use borrow.Author.Tests.{eqb-true, eq-eqb, ne_eqb}
-use Rattle.cube.specs.NumberLists.{up_from, below, cons_if, select, lists, Inside}
+use Rattle.cube.specs.NumberLists.{up_from, cons_if, select, lists, Inside}
 use Rattle.cube.specs.Cube.{size}
 use Rattle.cube.specs.Mask.{well_formed, member, points, mask}
 use Rattle.cube.proofs.Masks.{member_from, points_inside}

@@ -4,7 +4,7 @@
 use mathlib.Core.Path.{◌≡◌, sym}
 use mathlib.Core.List.{List, ◌∷◌}
 use Prim.Native.Nat.{ℕ}
-use Rattle.refusal.specs.Outcome.{Outcome, refused, accepted, after}
+use Rattle.refusal.specs.Outcome.{Outcome, refused, accepted}
 use Rattle.refusal.proofs.Outcomes.{not_both}
 use Rattle.varint.specs.Drawn.{Drawn, ◌leaving◌}
 use Rattle.point_list.specs.PointList.{before}

@@ -1,3 +1,4 @@
+#![tactic(auto)]
 // Lists of points in a file: docs/SPECIFICATION.md, 'Filter file'. A list is its count, then the first point itself, then
 // for each later point its difference from the one before. The functions write the list of a mask's points into a lent
 // buffer, all other bytes of which stay; those that are `pub` are so for the crate of the file alone.
