@@ -5,7 +5,7 @@ ghost use Rattle.refusal.specs.Refusal.{number_of};
 
 pub mod verdict; // verdict.rt: the verdict of a list of checks
 
-#[derive(Drop)]
+#[derive(Clone, Copy)]
 pub enum Refusal {
     // 1: a lent buffer has the wrong length.
     Length,
