@@ -1,9 +1,3 @@
--- Laws of the reader of files, and rules for walks of its functions.
-pub mod Calls
+-- Laws of the reader of files.
 pub mod Decisions
-pub mod DrawCalls
-pub mod Held
-pub mod LentAgain
-pub mod Locals
-pub mod NumberCalls
 pub mod NumbersDrawn

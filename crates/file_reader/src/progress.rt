@@ -8,14 +8,14 @@ use refusal::Refusal;
 use varint::Varint;
 
 // What a file says so far: n, or why it is refused.
-#[derive(Drop)]
+#[derive(Clone, Copy)]
 pub enum Reading {
     Accepted(usize),
     Refused(Refusal),
 }
 
 // What a file says so far, and the place of its next number.
-#[derive(Drop)]
+#[derive(Clone, Copy)]
 pub struct Progress {
     pub reading: Reading,
     pub next: usize,

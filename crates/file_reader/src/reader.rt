@@ -1,7 +1,6 @@
 // The reader: one walks a file from its first byte, and every number is drawn from it.
 // `draw` takes it apart and calls the reader of numbers on slice and place, and `past` hands it back moved. What a number
-// says is decided by functions on plain values. The functions over a reader are proved by hand, since it holds a
-// reference; `draw_all`, whose parameters are plain, serves every other caller.
+// says is decided by functions on plain values. `draw_all`, whose parameters are plain, serves every other caller.
 ghost use Rattle.std.specs.Prelude.{◌≡◌, true, length, drop};
 ghost use Rattle.refusal.specs.Outcome.{accepted};
 ghost use Rattle.cube.specs.Cube.{taps};
@@ -13,7 +12,7 @@ use crate::progress::{Progress, Reading, taps_of};
 use varint::{Varint, varint_at};
 
 // The bytes of a file, and the place of the next number.
-#[derive(Drop)]
+#[derive(Clone, Copy)]
 pub struct Reader<'a> {
     pub src: &'a [u8],
     pub at: usize,
