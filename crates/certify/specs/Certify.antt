@@ -1,11 +1,11 @@
 -- Certify: docs/SPECIFICATION.md, 'Certify'.
---   certify_inputs s f n side d m l    the checks of the inputs, lent the set s, the table f, a workspace of m and a certificate of l numbers
---   ranks_equal o s f n side d         12: at degree d the ranks of the set and of the side's part are equal
---   certify_outcome o s f n ..         what Certify writes in the order o: the first refusal, or the certificate
+--   certify_inputs s f n side d m l   the checks of the inputs, lent the set s, the table f, a workspace of m and a certificate of l numbers
+--   ranks_equal o s f n side d        12: at degree d the ranks of the set and of the side's part are equal
+--   certify_outcome o s f n ..        what Certify writes in the order o: the first refusal, or the certificate
 --   PartKept o n d b m                the mask m that Certify goes by marks the kept points of the mask b, that of a part, at degree d
---   zero_if b ws                       a buffer that is zero, or as it was
---   cleared_unless o ws                the workspace as Certify leaves it: zero after acceptance and after 12, else as it was
---   outcome_of r c                     what an answer, with the certificate at exit, states
+--   zero_if b ws                      a buffer that is zero, or as it was
+--   cleared_unless o ws               the workspace as Certify leaves it: zero after acceptance and after 12, else as it was
+--   outcome_of r c                    what an answer, with the certificate at exit, states
 --   CertifyContract o ..              the contract of Certify: it answers the outcome o, and leaves what that says
 --   CertifyAccepts o n s f side d c   Certify accepts n taps, the set s and the table f at a side and a degree, lent buffers of the right lengths, and writes c
 use Rattle.std.specs.Prelude.{◌≡◌, Bool, true, false, not, List, [], ◌∷◌, ◌++◌, ℕ, eqb, length}

@@ -1,9 +1,9 @@
 -- The sums of the points of a set outside a part, in the workspace: row 512 + a is for the point a.
---   sum_at t c k ps a           the sum of the combinations of the rows that are added to the row of the point a
+--   sum_at t c k ps a          the sum of the combinations of the rows that are added to the row of the point a
 --   Sums t t' c k ps s b a     the sums of the points below a that are in the set s and outside the part b stand in their places, and nothing is left of their rows
 --   NoSum t c k s b            of the row of a point that is in the set s and outside the part b the first k rows leave something
---   outside_row s b t a         the row in the place of the point a where it is in the set s and outside the part b, else none
---   word_of v k                 number k of the row v: its 64 bits from bit 64 k on
+--   outside_row s b t a        the row in the place of the point a where it is in the set s and outside the part b, else none
+--   word_of v k                number k of the row v: its 64 bits from bit 64 k on
 --   written s b t              the 4,096 numbers of these rows
 use Rattle.std.specs.Prelude.{◌≡◌, true, false, List, map, ℕ, ◌+◌, ◌*◌, ◌≤◌, ◌<◌, take, drop}
 use Rattle.cube.specs.NumberLists.{below}

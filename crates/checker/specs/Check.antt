@@ -1,7 +1,7 @@
 -- Check: docs/SPECIFICATION.md, 'Check'.
---   check_inputs s f n side d l         the checks of Check, lent the set s, the table f and a certificate of l numbers
---   check_outcome o s f n side d c      what Check answers in the order o: the first refusal, or whether c is a certificate
---   outcome_of r                        what an answer states: true for yes, false for no
+--   check_inputs s f n side d l        the checks of Check, lent the set s, the table f and a certificate of l numbers
+--   check_outcome o s f n side d c     what Check answers in the order o: the first refusal, or whether c is a certificate
+--   outcome_of r                       what an answer states: true for yes, false for no
 --   CheckContract o s f n side d c r   the contract of Check: r states the outcome in the order o, and is yes exactly for a certificate
 --   CheckAccepts o n s f side d c b    Check accepts n taps, the set s, the table f, a side, a degree and the length of c, and answers yes, where b is true, or no
 use Rattle.std.specs.Prelude.{◌≡◌, ◌↔◌, Bool, true, false, List, ◌++◌, ℕ, length}

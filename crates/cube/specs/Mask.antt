@@ -1,14 +1,14 @@
 -- Sets, tables and coefficients as they are lent, 512 bytes: docs/SPECIFICATION.md, 'Buffers'.
 --   bits_then_zeros m b   the first m bytes of b are 0 or 1, the others 0
---   well_formed n b      byte a is 0 or 1 for a below N, and 0 from N on: the 0/1/0 rule
---   WellFormed n b      the same as a proposition (proofs/Masks.antt, `formed_says`)
---   member b a          the mask b marks the number a
---   marked b            the numbers that the mask b marks, rising
---   points b            the same of a set: its points
---   HasPoint b          there is one
---   byte b              1 for true, 0 for false
---   with_ones us b       the bytes b with 1 at each of the numbers us
---   mask t              the 512 bytes that mark the numbers below 512 that pass a test
+--   well_formed n b       byte a is 0 or 1 for a below N, and 0 from N on: the 0/1/0 rule
+--   WellFormed n b        the same as a proposition (proofs/Masks.antt, `formed_says`)
+--   member b a            the mask b marks the number a
+--   marked b              the numbers that the mask b marks, rising
+--   points b              the same of a set: its points
+--   HasPoint b            there is one
+--   byte b                1 for true, 0 for false
+--   with_ones us b        the bytes b with 1 at each of the numbers us
+--   mask t                the 512 bytes that mark the numbers below 512 that pass a test
 use Rattle.std.specs.Prelude.{◌≡◌, Bool, true, false, ◌&&◌, ℕ, zero, suc, ◌≤◌, ◌<◌, eqb, leb, length, get_or, set}
 use mathlib.Core.List.{List, [], ◌∷◌, map, Memᴰ}
 use Rattle.cube.specs.NumberLists.{below, select}

@@ -1,12 +1,12 @@
 -- Lists of numbers.
 --   up_from u k       the k numbers from u on, rising
---   below m          the numbers below m, rising
+--   below m           the numbers below m, rising
 --   cons_if b x xs    x before the list xs, or not
---   select t xs      the members of a list that pass a test, in order
---   lists xs u       whether the number u stands in the list xs, as a test
+--   select t xs       the members of a list that pass a test, in order
+--   lists xs u        whether the number u stands in the list xs, as a test
 --   is_empty xs       whether a list has no member
---   largest t xs     the largest t of a member of a list, 0 where there is none
---   Inside m xs      each number of the list is below m
+--   largest t xs      the largest t of a member of a list, 0 where there is none
+--   Inside m xs       each number of the list is below m
 --   all_below m t     each number below m passes a test, as a test
 use Rattle.std.specs.Prelude.{Bool, true, false, ◌&&◌, ◌||◌, ℕ, zero, suc, ◌<◌, max, eqb}
 use mathlib.Core.List.{List, [], ◌∷◌, Memᴰ}

@@ -1,8 +1,8 @@
 -- What is promised of Check, sentence by sentence, about the definitions that the contracts equate with what the code answers:
 -- docs/SPECIFICATION.md, 'Check'.
 --   check_rules s f n side d l   the rules of Check, lent the set s, the table f and a certificate of l numbers, in the order of checking
---   Admitted s f n side d c     every rule holds
---   AnyCertificate              what is promised of Check: the refusals, what a yes and a no say, and what Certify's certificates get
+--   Admitted s f n side d c      every rule holds
+--   AnyCertificate               what is promised of Check: the refusals, what a yes and a no say, and what Certify's certificates get
 use Rattle.std.specs.Prelude.{◌≡◌, ◌↔◌, ◌≢◌, Bool, true, false, ℕ, ◌/◌, ◌^◌, ◌≤◌, ◌<◌, length, get_or}
 use mathlib.Core.List.{List, [], ◌∷◌, Memᴰ}
 use Rattle.cube.specs.Cube.{Taps}

@@ -3,13 +3,13 @@
 -- and 'Sheet'. The rest is said where it is said of every set: `exists`, `none_differs` and `none_annihilates` of demand 3, `empty_mask` of
 -- RankWords, `no_side` and `no_witnesses` of JudgeWords, `exists` of MarkWords, `printed_none` of SetMark, `one_exists` and `side_exists` of
 -- SidesWords, `judge_none` of KeptMasks.
---   no_points              the set of no points
---   TableOf n f           n and the table f obey the rules: 1 to 9 taps, 512 bytes by the 0/1/0 rule
+--   no_points               the set of no points
+--   TableOf n f             n and the table f obey the rules: 1 to 9 taps, 512 bytes by the 0/1/0 rule
 --   no_point_file n ones    what the file of n taps, no points and the list `ones` of the points where f is 1 says
---   zero_lines n           a rank line of zeros for each degree up to n
+--   zero_lines n            a rank line of zeros for each degree up to n
 --   no_point_sheet n        the sheet of n taps and no points
---   NothingFound j        the judgement j has no rank but 0, no degree, no side, no mark, and leaves zeros
---   EmptySet              what is promised of Read, Write, Rearrange, Judge, Certify, Check, the sheet and the refusals
+--   NothingFound j          the judgement j has no rank but 0, no degree, no side, no mark, and leaves zeros
+--   EmptySet                what is promised of Read, Write, Rearrange, Judge, Certify, Check, the sheet and the refusals
 use Rattle.std.specs.Prelude.{◌≡◌, ◌↔◌, ◌≢◌, Bool, true, List, [], ◌∷◌, ◌++◌, ℕ, ◌+◌, ◌^◌, ◌≤◌, ◌<◌, length, get_or, drop, replicate}
 use Rattle.std.proofs.Math.Option.{none}
 use Rattle.cube.specs.NumberLists.{below, lists}

@@ -2,9 +2,9 @@
 -- over' but 'Check', with what 'Words', 'Outcomes' and 'Sheet' say of them, about the definitions that the contracts equate with what
 -- the code answers and leaves.
 --   SameRank n d ps qs             the points ps and qs have the same rank at degree d
---   rank_rules b n d m l            the rules of Rank, lent the mask b, a workspace of m numbers and a mask of l bytes for the kept points, in the order of checking
---   judge_rules s f n m p q l       those of Judge, lent the set s, the table f, a workspace of m numbers, witness buffers of p and q bytes and such a mask of l bytes
---   certify_rules s f n ..          those of Certify
+--   rank_rules b n d m l           the rules of Rank, lent the mask b, a workspace of m numbers and a mask of l bytes for the kept points, in the order of checking
+--   judge_rules s f n m p q l      those of Judge, lent the set s, the table f, a workspace of m numbers, witness buffers of p and q bytes and such a mask of l bytes
+--   certify_rules s f n ..         those of Certify
 --   RankWords                      the sentences on elimination and on Rank
 --   ReportWords n s f j k          those on what Judge answers and leaves for the reported degree k
 --   JudgeWords n s f j             those on what Judge answers and leaves

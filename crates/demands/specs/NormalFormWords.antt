@@ -2,7 +2,7 @@
 -- contracts equate with what the code answers and leaves. That Degree answers the degree is `degree_of_any` of WeightWords.
 --   convert_rules b n   the rules of Convert, lent the bytes b, in the order of checking
 --   degree_rules b n    those of Degree, lent the coefficients b
---   NormalFormWords    the sentences
+--   NormalFormWords     the sentences
 use Rattle.std.specs.Prelude.{◌≡◌, ◌↔◌, true, List, [], ◌∷◌, ◌++◌, ℕ, ◌≤◌, ◌<◌, length, get_or}
 use Rattle.cube.specs.Cube.{Taps, size}
 use Rattle.cube.specs.Mask.{WellFormed, member, byte}

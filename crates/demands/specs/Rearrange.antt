@@ -1,6 +1,6 @@
 -- What is promised of Rearrange, sentence by sentence, about the definitions that the contracts of Rearrange, Rank and Judge equate
 -- with what the code answers and leaves: docs/SPECIFICATION.md, 'Rearrange'.
---   rearrange_rules s f n ts         the rules of Rearrange, lent the set s, the table f and the wiring ts, in the order of checking
+--   rearrange_rules s f n ts        the rules of Rearrange, lent the set s, the table f and the wiring ts, in the order of checking
 --   FilterOf n s f                  n, the set s and the table f obey the rules
 --   Rearranges n ts s s' f f' r     lent n, the set s, the table f and the wiring ts, Rearrange answers r and leaves s' and f' in the two buffers
 --   OldPoint n ts a p               p is the old point of the new point a: its tap `entry i` is tap i of a

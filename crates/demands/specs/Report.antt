@@ -1,7 +1,7 @@
 -- What is promised of the report that the exported Judge is lent, about the definitions that its contract equates with its status:
 -- docs/SPECIFICATION.md, 'Library'.
 --   reported_rules r s f n ..   the rules of Judge where it is lent a report of r numbers too, in the order of checking
---   JudgeReport                what is promised of the report's length
+--   JudgeReport                 what is promised of the report's length
 use Rattle.std.specs.Prelude.{◌≡◌, ◌↔◌, ◌≢◌, List, ◌∷◌, ℕ}
 use Rattle.refusal.specs.Rule.{Rule, ◌unless◌, FirstBroken}
 use Rattle.refusal.specs.Outcome.{refused, accepted}

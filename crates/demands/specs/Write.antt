@@ -2,7 +2,7 @@
 -- leaves: docs/SPECIFICATION.md, 'Write'.
 --   ReadBack file n s f   the file is bytes that Read, lent buffers of the right lengths, takes back to n taps, the set s and the table f
 --   Writable n s f        the triple of n taps, the set s and the table f is accepted: Write accepts it, lent an output that is long enough
---   write_rules s f n m    the rules of Write, lent the set s, the table f and an output of m bytes, in the order of checking
+--   write_rules s f n m   the rules of Write, lent the set s, the table f and an output of m bytes, in the order of checking
 --   RoundTrips            what is promised of Write: both round trips with Read, one file for each triple, the answer, the output and the refusals
 use Rattle.std.specs.Prelude.{◌≡◌, ◌↔◌, ◌≢◌, List, [], ◌∷◌, ◌++◌, ℕ, ◌≤◌, ◌<◌, length, take, drop}
 use Rattle.cube.specs.NumberLists.{lists}

@@ -6,7 +6,7 @@
 --   JudgeStatus o ..     the status, the workspace, the witness buffers, the mask of kept points and the report after Judge; o is `reported_outcome`
 --   CertifyStatus o ..   the status, the workspace and the certificate after Certify
 --   CheckStatus o ..     the status and the number for yes or no after Check
---   in_front part copy    a buffer with a part at its front, as many bytes as it has room for
+--   in_front part copy   a buffer with a part at its front, as many bytes as it has room for
 --   HandOverStatus ..    the length of the part that Hand over hands back, and its copy
 --   RearrangeStatus o .. the status and both masks after Rearrange
 use Rattle.std.specs.Prelude.{◌≡◌, Bool, List, ◌++◌, ℕ, min, length, get_or, take, drop}

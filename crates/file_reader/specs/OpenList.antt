@@ -1,11 +1,11 @@
 -- A list of points that is being drawn: docs/SPECIFICATION.md, 'Filter file'. What is left of it, and what its next number
 -- makes of it.
---   saying o q               what the outcome o says, n or a refusal, once q has drawn bytes: n beside them, or the refusal
---   remaining l b s          what is left of the list l: its points, drawn from the bytes s of a file and marked in the bytes b
+--   saying o q                what the outcome o says, n or a refusal, once q has drawn bytes: n beside them, or the refusal
+--   remaining l b s           what is left of the list l: its points, drawn from the bytes s of a file and marked in the bytes b
 --   after_count n b o         the list after n whose count is what the outcome o draws, marked in the bytes b
 --   after_point l b o         what is left of the list l, where its next number is what the outcome o draws
 --   refused_list r            a list that is refused: no point of it is left
---   Bounded l                the last point of the list l is at most N, and N at most 512
+--   Bounded l                 the last point of the list l is at most N, and N at most 512
 use Rattle.std.specs.Prelude.{List, ℕ, ◌-◌, ◌≤◌, drop}
 use Rattle.refusal.specs.declared.Refusal.{Refusal}
 use Rattle.refusal.specs.Outcome.{Outcome, accepted}

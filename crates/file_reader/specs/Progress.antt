@@ -1,13 +1,13 @@
 -- What one reader draws from a file, number by number: docs/SPECIFICATION.md, 'Filter file'.
 --   reading_of r             the number, or n, of the code's reading r
---   leave o rest            the value of the outcome o, and the bytes that remain after it
+--   leave o rest             the value of the outcome o, and the bytes that remain after it
 --   outcome_of s p           what the code's progress p says of the bytes s of a file
---   beside b o              each value that the outcome o draws, beside the bytes b
+--   beside b o               each value that the outcome o draws, beside the bytes b
 --   taps_by o                n, where it is what the outcome o draws
 --   taps_of s                n, the number that the bytes s begin with: refused by 2, 3 or 4
 --   list_after o b s         after the outcome o, which gives n: n, and the bytes b marked at a list of points below N
---   numbers b c s           n and the two lists of the file s: n, and the bytes b and c marked at the points of S and at those where f is 1
---   Tapped r                where the code's reading r is n, n is a number of taps
+--   numbers b c s            n and the two lists of the file s: n, and the bytes b and c marked at the points of S and at those where f is 1
+--   Tapped r                 where the code's reading r is n, n is a number of taps
 --   refused_by r             the code's progress where the file is refused
 use Rattle.std.specs.Prelude.{◌≡◌, true, List, ℕ, drop}
 use Rattle.refusal.specs.declared.Refusal.{Refusal}

@@ -2,8 +2,8 @@
 --   length_is k m            1: a lent buffer of k elements should have m
 --   taps_of n                4: n is from 1 to 9
 --   mask_of n b              8: the mask b obeys the 0/1/0 rule of n taps
---   degree_up_to d n          10: the degree d is at most n
---   side_up_to_1 side          11: the side is at most 1
+--   degree_up_to d n         10: the degree d is at most n
+--   side_up_to_1 side        11: the side is at most 1
 --   filter_lengths s f       1: of a set and of a table
 --   filter_masks n s f       what follows the taps: 8 of the set, 8 of the table
 --   at_degree n s f side d   what follows the taps where a side and a degree are asked for: 8 of the set, 8 of the table, 10, 11

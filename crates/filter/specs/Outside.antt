@@ -1,7 +1,7 @@
 -- The points of a set outside a part.
---   Outside ss ps a     the point a is one of ss and none of ps
+--   Outside ss ps a      the point a is one of ss and none of ps
 --   is_outside ss ps a   the same as a test (proofs/Outside.antt, `outside_says`)
---   outside ss ps       the points of ss outside ps, in order
+--   outside ss ps        the points of ss outside ps, in order
 use Rattle.std.specs.Prelude.{Bool, not, ◌&&◌, ℕ}
 use mathlib.Core.List.{List, Memᴰ}
 use Rattle.cube.specs.NumberLists.{select, lists}

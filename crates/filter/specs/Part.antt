@@ -1,5 +1,5 @@
 -- The parts of a set: docs/SPECIFICATION.md, 'Words'.
---   part side s f   the points of the set s where the table f is `side`, rising: part 1 and part 0
+--   part side s f    the points of the set s where the table f is `side`, rising: part 1 and part 0
 --   both_parts s f   the two parts, one for each side
 use Rattle.std.specs.Prelude.{List, ℕ, eqb, get_or}
 use Rattle.cube.specs.NumberLists.{select}

@@ -1,9 +1,9 @@
 -- Two things, one for each side: side 1 is f, and side 0 is f + 1.
---   Sides A         one thing for each side
---   pair x y        x for side 1, y for side 0
+--   Sides A          one thing for each side
+--   pair x y         x for side 1, y for side 0
 --   side_if b p      that of side 1, or of side 0, by a test
 --   of_side side p   that of a side: side 1's for 1, else side 0's
---   exchanged p     each at the other side
+--   exchanged p      each at the other side
 --   both_sides g     what g gives for each side
 use Rattle.std.specs.Prelude.{Bool, true, false, ℕ, eqb}
 

@@ -1,10 +1,10 @@
 -- Write: docs/SPECIFICATION.md, 'Write'.
---   contents_of n s f              what the file of n taps, the set s and the table f says
---   file_of n s f                  that file
---   write_inputs s f n             the checks of the set s, the table f and n
---   room_for k m                   13: an output of m bytes has room for a file of k bytes
---   write_outcome s f n m          what Write writes, lent an output of m bytes: the first refusal, or the file
---   outcome_of r                   the number, or the length, of the code's answer r
+--   contents_of n s f             what the file of n taps, the set s and the table f says
+--   file_of n s f                 that file
+--   write_inputs s f n            the checks of the set s, the table f and n
+--   room_for k m                  13: an output of m bytes has room for a file of k bytes
+--   write_outcome s f n m         what Write writes, lent an output of m bytes: the first refusal, or the file
+--   outcome_of r                  the number, or the length, of the code's answer r
 --   WriteContract o r out₀ out₁   the contract of Write: the answer r and the output, at entry and at exit, are those of the outcome o
 --   WriteAccepts n s f m file     Write, lent an output of m bytes, accepts n taps, the set s and the table f, and writes the file
 use Rattle.std.specs.Prelude.{◌≡◌, List, [], ◌∷◌, ◌++◌, ℕ, leb, length, drop}

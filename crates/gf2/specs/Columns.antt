@@ -1,8 +1,8 @@
 -- The columns of a list of rows, as rows.
---   column c rs          the entries of the rows at column c
+--   column c rs           the entries of the rows at column c
 --   columns_from c n rs   n columns from column c on
 --   columns_before c rs   the columns before column c
---   NewColumns rs x      x is one only at columns that are no sum of the columns before them: the kept columns of a witness
+--   NewColumns rs x       x is one only at columns that are no sum of the columns before them: the kept columns of a witness
 use Rattle.std.specs.Prelude.{◌≡◌, true, List, [], ◌∷◌, map, ℕ, zero, suc}
 use Rattle.gf2.specs.Vector.{Row, entry, SumOf}
 

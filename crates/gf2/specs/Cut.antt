@@ -1,5 +1,5 @@
 -- Rows that are cut, continued by zeros, or met with another.
---   zero_row      the row of 512 zeros
+--   zero_row     the row of 512 zeros
 --   cut c v      a row with zeros from column c on
 --   padded m v   the first m columns of a row that is continued by zeros
 --   common v w   the columns where both rows have a one

@@ -1,19 +1,19 @@
 -- The elimination of docs/SPECIFICATION.md, 'Elimination': points are taken in order, and the row of each is reduced by
 -- the rows kept so far.
---   pivot v               the first column where v has a one
+--   pivot v                the first column where v has a one
 --   is_zero v              whether v is zero
---   count c               how many members a choice chooses
---   Cleared kept v        v is zero at the pivot of each kept row
---   Echelon kept          each row has a one at its pivot, and all later rows have a zero there
---   Reduced               what is left of a row after it was reduced, and which rows were added to it
+--   count c                how many members a choice chooses
+--   Cleared kept v         v is zero at the pivot of each kept row
+--   Echelon kept           each row has a one at its pivot, and all later rows have a zero there
+--   Reduced                what is left of a row after it was reduced, and which rows were added to it
 --   add_if b v r           r is added to v, or not
---   reduce kept v         the row v is reduced by the kept rows: it meets them in the order kept
---   Elimination           what is kept of the rows of points, its combinations, the kept points, the number of additions
---   nothing               no point is taken yet
+--   reduce kept v          the row v is reduced by the kept rows: it meets them in the order kept
+--   Elimination            what is kept of the rows of points, its combinations, the kept points, the number of additions
+--   nothing                no point is taken yet
 --   keep_unless b xs x     one more at the end of a list, or none
 --   take_point row e a     one point more, which is kept or not
 --   take_points row e ps   more points, in order
---   eliminate row ps      what elimination finds when it takes the points ps in order, each with its row
+--   eliminate row ps       what elimination finds when it takes the points ps in order, each with its row
 use Rattle.std.specs.Prelude.{◌≡◌, Bool, true, false, ◌&&◌, not, List, [], ◌∷◌, ◌++◌, ℕ, zero, suc, ◌+◌}
 use Rattle.gf2.specs.Vector.{Row, entry, add, total, unit, Each, Choice, chosen}
 

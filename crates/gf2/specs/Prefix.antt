@@ -1,9 +1,9 @@
 -- Elimination at fewer columns: the rows are cut, with zeros from a column on.
---   cons_unless b x xs           one more at the front of a list, or none
---   kept_to c rs                 the rows cut to c columns, without those of which nothing is left
---   count_to c ps                how many numbers are below c
---   points_below c ps qs         those of the points qs whose pivots, at the same places of ps, are below c
---   sum_to c xs                  the sum of the first c numbers
+--   cons_unless b x xs          one more at the front of a list, or none
+--   kept_to c rs                the rows cut to c columns, without those of which nothing is left
+--   count_to c ps               how many numbers are below c
+--   points_below c ps qs        those of the points qs whose pivots, at the same places of ps, are below c
+--   sum_to c xs                 the sum of the first c numbers
 --   AtMost m xs                 each number is at most m
 --   Tallies k row t t' xs xs'   a row of t is reduced by the first k rows, and the tally xs counts the additions by pivot
 use Rattle.std.specs.Prelude.{◌≡◌, Bool, true, false, List, [], ◌∷◌, map, ℕ, zero, suc, ◌+◌, ◌≤◌, ltb, get_or, set, take}

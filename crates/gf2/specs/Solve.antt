@@ -1,7 +1,7 @@
 -- Rows with given parities against the rows of an echelon list, by back substitution.
 --   flip b x c         column c of x is changed, or nothing
 --   solve kept bs      the row, one only at pivots of kept rows, whose parities with the kept rows are bs
---   solve_last rs v     the same for the rows rs and v: even with each of rs, odd with v
+--   solve_last rs v    the same for the rows rs and v: even with each of rs, odd with v
 --   witness row ps a   even with the row of each of the points ps, odd with the row of a, where that is no sum of theirs
 use Rattle.std.specs.Prelude.{Bool, true, false, List, [], ◌∷◌, ◌++◌, ℕ, length, replicate}
 use Rattle.std.specs.Bool.{xor}

@@ -1,10 +1,10 @@
 -- The rows of a table while one of them is reduced and kept; the kept rows are the first.
 --   row_of t j                  row j of a list of rows, empty past its end
---   Pivots ps t k              ps has the pivots of the first k rows of t, each below 512: no such row of 512 columns is zero
---   Reduces k row t t' n       a row of t is reduced by the first k rows, with n additions; t' is what the rows are then
---   Places ps k s              the rows at the first k places of ps are rows from 512 on, and none is row s
+--   Pivots ps t k               ps has the pivots of the first k rows of t, each below 512: no such row of 512 columns is zero
+--   Reduces k row t t' n        a row of t is reduced by the first k rows, with n additions; t' is what the rows are then
+--   Places ps k s               the rows at the first k places of ps are rows from 512 on, and none is row s
 --   reduced_both k row s ps t   the rows t after a row was reduced by the first k rows and, for each row added to it, the row at its place of ps was added to row s
---   one_more_unless b k          k + 1, or k
+--   one_more_unless b k         k + 1, or k
 use Rattle.std.specs.Prelude.{◌≡◌, Bool, true, false, ◌≢◌, List, [], map, ℕ, ◌+◌, ◌≤◌, ◌<◌, take, get_or, set}
 use Rattle.gf2.specs.Vector.{Row, add, total, chosen}
 use Rattle.gf2.specs.Elimination.{pivot, count, Reduced, reduce}

@@ -1,6 +1,6 @@
 -- Hand over: docs/SPECIFICATION.md, 'Hand over'. The part of a witness buffer that holds the witness of a side.
 --   right n side k l                 n, the side and the lengths k and l of both buffers are right
---   length_if b n                     N where a test holds, else 0
+--   length_if b n                    N where a test holds, else 0
 --   handed n side w                  the part of the buffers w that is handed back: the first N bytes of the side's, or none
 --   HandOverContract n side w part   the contract of Hand over: that part
 use Rattle.std.specs.Prelude.{◌≡◌, Bool, true, false, ◌&&◌, List, ℕ, eqb, leb, length, take}

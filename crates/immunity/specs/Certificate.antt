@@ -1,14 +1,14 @@
 -- Certificates: docs/SPECIFICATION.md, 'Certificate'. For each point of the set outside the part, points of the part
 -- whose rows sum to its row.
---   bit_of c a q                  bit q of the row of the point a in the certificate c: of its eight numbers from 8 a
+--   bit_of c a q                 bit q of the row of the point a in the certificate c: of its eight numbers from 8 a
 --   named c a                    this row, over points
 --   Names o n d ss ps qs c       c names, for each point of ss outside ps, points of qs whose rows sum to its row, and nothing else
 --   Certifies o n d ss ps c      the same with points of ps: a certificate, whoever made it
 --   IsCertificate ..             the same with kept points of ps: the certificate that Certify writes
---   sum_of o n d ps a             the kept points of ps whose rows sum to the row of a, where it is a sum of theirs, as a row over points
---   row_if b x                    the row x, or none
---   sum_if ..                     the row of a point in the certificate that Certify writes
---   number_at x i                 number i of the rows x: 64 bits of row i / 8, from bit 64 (i mod 8) on
+--   sum_of o n d ps a            the kept points of ps whose rows sum to the row of a, where it is a sum of theirs, as a row over points
+--   row_if b x                   the row x, or none
+--   sum_if ..                    the row of a point in the certificate that Certify writes
+--   number_at x i                number i of the rows x: 64 bits of row i / 8, from bit 64 (i mod 8) on
 --   certificate o n s f side d   the 4,096 numbers that Certify writes
 use Rattle.std.specs.Prelude.{Bool, true, false, ◌≡◌, List, [], map, ℕ, ◌+◌, ◌*◌, ◌/◌, ◌%◌, ◌^◌, ◌<◌, eqb, length, get_or, take, drop}
 use Rattle.cube.specs.NumberLists.{below}

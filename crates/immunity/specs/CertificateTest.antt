@@ -1,8 +1,8 @@
 -- Whether numbers are a certificate, whoever made it, as a test: docs/SPECIFICATION.md, 'Certificate' and 'Check'.
 --   only_at qs s                the row s over points is one only at points of the list qs
---   expresses r qs s v         s is one only at points of qs, and the rows r of the points where it is one sum to v: `Expresses` as a test
+--   expresses r qs s v          s is one only at points of qs, and the rows r of the points where it is one sum to v: `Expresses` as a test
 --   right_row o n d ss ps c a   what c names for the point a is right: points of ps whose rows sum to its row if a is of ss and outside ps, else nothing
---   certifies o n d ss ps c    c is a certificate: `Certifies` as a test, where the points ss are below 512 (proofs/CertificateTest.antt, `certifies_says`)
+--   certifies o n d ss ps c     c is a certificate: `Certifies` as a test, where the points ss are below 512 (proofs/CertificateTest.antt, `certifies_says`)
 use Rattle.std.specs.Prelude.{Bool, not, ◌&&◌, ◌||◌, cond, List, map, ℕ, eqb, length}
 use Rattle.cube.specs.NumberLists.{lists, all_below}
 use Rattle.gf2.specs.Vector.{Row, entry, add, total}

@@ -1,7 +1,7 @@
 -- A first degree as the code says it, a side's own or a mark, and the smaller of two; Judgement.antt has `side_degree`.
 --   degree_of x      the degree that the code's value x says, or none
 --   degrees_of x y   the same of both sides, x for side 1 and y for side 0
---   smaller x y     the smaller of two degrees, of those that exist; none if neither does
+--   smaller x y      the smaller of two degrees, of those that exist; none if neither does
 use Rattle.std.proofs.Math.Option.{Option, none, some}
 use Rattle.std.specs.Prelude.{ℕ, min}
 use Rattle.filter.specs.Sides.{Sides, pair}

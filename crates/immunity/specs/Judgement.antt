@@ -1,18 +1,18 @@
 -- What Judge answers and leaves. The table is seen through the parts only.
 --   EqualRanks o n s f side d   the set and the side's part have the same rank at degree d
 --   differs o n s f d side      at degree d the rank of the side's part is not that of the set
---   either_differs ..            one of the two sides differs
+--   either_differs ..           one of the two sides differs
 --   reported o n s f            the first degree at which a side differs, or none
---   side_degree o n s f side     a side's own degree: the first at which that side differs, or none
---   ranks_at o n s f d           the ranks of the set, part 1 and part 0 at a degree; all 0 past n
---   side_at .. k                 the side for the reported degree: 1 if side 1 differs there, else 0; none where no degree is reported
---   additions_at                 the additions of the three eliminations at a degree
+--   side_degree o n s f side    a side's own degree: the first at which that side differs, or none
+--   ranks_at o n s f d          the ranks of the set, part 1 and part 0 at a degree; all 0 past n
+--   side_at .. k                the side for the reported degree: 1 if side 1 differs there, else 0; none where no degree is reported
+--   additions_at                the additions of the three eliminations at a degree
 --   summed t xs                 the sum of t over a list
---   witness_bytes .. k side      the witness buffer of a side for the reported degree: zeros where the side does not differ, or no degree is reported
---   kept_bytes o n s k           the mask of the kept points of the set for the reported degree: zeros where there is none
+--   witness_bytes .. k side     the witness buffer of a side for the reported degree: zeros where the side does not differ, or no degree is reported
+--   kept_bytes o n s k          the mask of the kept points of the set for the reported degree: zeros where there is none
 --   Judgement, judged           all of it
---   set_rank j d                 the rank of the set at degree d that a judgement gives
---   part_ranks j d               those of the parts, one for each side
+--   set_rank j d                the rank of the set at degree d that a judgement gives
+--   part_ranks j d              those of the parts, one for each side
 --   GivenEqual j side d         the two ranks that the judgement j gives for a side at degree d are equal
 use Rattle.std.specs.Prelude.{◌≡◌, Bool, false, not, ◌||◌, List, [], ◌∷◌, map, ℕ, ◌+◌, eqb, get_or}
 use Rattle.std.proofs.Math.Option.{Option, none, some}

@@ -1,14 +1,14 @@
 -- The ranks of the points of a set and of its two parts.
 --   no_ranks                   all 0
 --   ranks_if b r               the given ranks, or all 0
---   parts r                   those of the parts, one for each side
+--   parts r                    those of the parts, one for each side
 --   ranks_of o n d ss ps       the ranks at degree d of the points ss and, for each side, of the points ps
---   ranks_up_to o n ss ps d     the same up to degree n, and all 0 past it
+--   ranks_up_to o n ss ps d    the same up to degree n, and all 0 past it
 --   ranks_in ss ps d           the ranks at degree d that lists of ranks give
 --   additions_of o n d ss ps   the additions of the three eliminations
 --   part_differs r side        the rank of a side's part is not that of the set
---   differ r                  one of the two is not
---   flat rs                   the ranks at each degree as numbers: of the set, of part 1 and of part 0
+--   differ r                   one of the two is not
+--   flat rs                    the ranks at each degree as numbers: of the set, of part 1 and of part 0
 use Rattle.std.specs.Prelude.{Bool, true, false, not, ◌||◌, List, [], ◌∷◌, ℕ, ◌+◌, eqb, leb, get_or}
 use Rattle.filter.specs.Sides.{Sides, pair, of_side}
 use Rattle.matrix.specs.Matrix.{eliminated, rank_of}

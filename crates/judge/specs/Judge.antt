@@ -1,12 +1,12 @@
 -- Judge: docs/SPECIFICATION.md, 'Judge'.
---   judge_checks s f n m p q l   the checks of Judge, lent the set s, the table f, a workspace of m numbers, witness buffers of p and q bytes and a mask of l bytes for the kept points
---   judge_outcome o s f n ..     what Judge answers and leaves in the order o: the first refusal, or the judgement of the set and the table
---   judgement_of r ranks w m     the judgement that a report states, with the ranks, the witness buffers w and the mask m of kept points
+--   judge_checks s f n m p q l    the checks of Judge, lent the set s, the table f, a workspace of m numbers, witness buffers of p and q bytes and a mask of l bytes for the kept points
+--   judge_outcome o s f n ..      what Judge answers and leaves in the order o: the first refusal, or the judgement of the set and the table
+--   judgement_of r ranks w m      the judgement that a report states, with the ranks, the witness buffers w and the mask m of kept points
 --   no_point_judgement ranks w m  the judgement that `NoPoint` states, with the same: no mark, degree or side, and 0 additions
---   found ..                    the number or the values of what was found
---   outcome_of r w m             what an answer, with the witness buffers w and the mask m at exit, states
---   JudgeContract o ..          the contract of Judge: it answers the outcome o, and leaves what that says
---   JudgeAccepts o n s f j      Judge accepts n taps, the set s and the table f, lent buffers of the right lengths, and answers and leaves j
+--   found ..                      the number or the values of what was found
+--   outcome_of r w m              what an answer, with the witness buffers w and the mask m at exit, states
+--   JudgeContract o ..            the contract of Judge: it answers the outcome o, and leaves what that says
+--   JudgeAccepts o n s f j        Judge accepts n taps, the set s and the table f, lent buffers of the right lengths, and answers and leaves j
 use Rattle.std.specs.Prelude.{◌≡◌, List, ◌++◌, ℕ, length, replicate}
 use Rattle.std.proofs.Math.Option.{none, some}
 use Rattle.refusal.specs.Refusal.{number_of}

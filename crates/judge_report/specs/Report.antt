@@ -1,12 +1,12 @@
 -- The report of Judge: what it answers beside its buffers, as a list of 36 numbers.
---   degree_number k             the number for a degree; 10, which is no degree, if there is none
---   side_number side            the number for a side; 2, which is no side, if there is none
+--   degree_number k            the number for a degree; 10, which is no degree, if there is none
+--   side_number side           the number for a side; 2, which is no side, if there is none
 --   numbers rs k side a ks m   the report with the ranks rs, the degree k, the side, a additions, the sides' own degrees ks and the mark m
---   report_of j                 the report of a judgement
+--   report_of j                the report of a judgement
 --   StandsFor x i m            the number m stands for x: it is i exactly where x is none, and else what x is
 --   Reportable x               the numbers of what was found fit in 32 bits: degree and mark are at most 9, that for a side's own degree at most 10
 --   Reports answer ns ns' r    the status r of an answer of Judge, and a report, ns at entry and ns' at exit, that holds what was answered
---   reported_outcome l o        the outcome o of Judge where a report of l numbers is lent beside its buffers: 1 unless there are 36
+--   reported_outcome l o       the outcome o of Judge where a report of l numbers is lent beside its buffers: 1 unless there are 36
 use Rattle.std.specs.Prelude.{◌≡◌, ◌↔◌, List, [], ◌∷◌, ◌++◌, ℕ, ◌≤◌}
 use Rattle.std.proofs.Math.Option.{Option, none, some, get_or}
 use Rattle.refusal.specs.Outcome.{Outcome, checked, left_by}

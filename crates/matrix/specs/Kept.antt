@@ -1,7 +1,7 @@
 -- The points that elimination keeps: docs/SPECIFICATION.md, 'Elimination'.
 --   kept_points o n d ps   the points that elimination at degree d keeps of ps
 --   kept_mask o n d ps     the 512 bytes that mark them
---   KeptAt t c ps k qs    the first k of qs are the points that elimination of c columns of the rows in the places of ps keeps
+--   KeptAt t c ps k qs     the first k of qs are the points that elimination of c columns of the rows in the places of ps keeps
 use Rattle.std.specs.Prelude.{◌≡◌, List, ℕ, take}
 use Rattle.cube.specs.NumberLists.{lists}
 use Rattle.cube.specs.Mask.{mask}

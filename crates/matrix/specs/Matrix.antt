@@ -1,6 +1,6 @@
 -- The matrix of points against monomials up to a degree: docs/SPECIFICATION.md, 'Elimination'.
 --   eliminated o n d ps   the elimination of the rows of the points ps
---   rank_of o n d ps       how many of them it keeps
+--   rank_of o n d ps      how many of them it keeps
 --   choice o n d x        the polynomial that chooses the columns where the row x is one
 use Rattle.std.specs.Prelude.{List, ℕ, length}
 use Rattle.cube.specs.NumberLists.{lists}

@@ -1,12 +1,12 @@
 -- Rank: docs/SPECIFICATION.md, 'Rank'.
---   ranked o n d ps           the rank of the points ps at degree d, and the additions of their elimination
---   Ranking                   what Rank answers and leaves: the rank, the additions, and the mask of the kept points
+--   ranked o n d ps            the rank of the points ps at degree d, and the additions of their elimination
+--   Ranking                    what Rank answers and leaves: the rank, the additions, and the mask of the kept points
 --   ranking_of r kept          a rank and additions with a mask
---   ranking o n d ps          the rank of the points ps at degree d, the additions of their elimination, and the mask of the points that it keeps
+--   ranking o n d ps           the rank of the points ps at degree d, the additions of their elimination, and the mask of the points that it keeps
 --   rank_checks b n d m l      the checks of Rank, lent the mask b, a workspace of m numbers and a mask of l bytes for the kept points, in the order of checking
 --   rank_outcome o b n d m l   what Rank answers and leaves in the order o: the first refusal, or rank, additions and kept points of the mask's points
 --   outcome_of r kept          what an answer of Rank, with the mask kept at exit, states
---   RankContract o ..         the contract of Rank: it answers the outcome o, and leaves what that says
+--   RankContract o ..          the contract of Rank: it answers the outcome o, and leaves what that says
 use Rattle.std.specs.Prelude.{◌≡◌, List, ◌++◌, ℕ, length}
 use Rattle.refusal.specs.Refusal.{number_of}
 use Rattle.refusal.specs.Outcome.{Outcome, refused, accepted, Check, checked, left, left_by}

@@ -1,18 +1,18 @@
 -- The numbered cases of docs/SPECIFICATION.md, 'Cases', as one list of inputs and expected answers.
---   JudgeFact       an answer of Judge that is expected
---   Fact            an answer that is expected
---   Case            the number of taps, the points of the set, the points where the table is 1, and the expected answers
+--   JudgeFact        an answer of Judge that is expected
+--   Fact             an answer that is expected
+--   Case             the number of taps, the points of the set, the points where the table is 1, and the expected answers
 --   same_list xs ys  whether two lists are the same
 --   same_option x y  whether two options are the same: both none, or the same number
 --   on_accepted t o  whether an outcome accepts, with values that pass the test t
 --   is_refused k o   whether an outcome is a refusal by the number k
 --   marks_only us b  whether the buffer b has 512 bytes, 1 at the numbers us and 0 elsewhere
 --   text_of ls       the text of lines
---   all t xs        whether each member of a list passes the test t
+--   all t xs         whether each member of a list passes the test t
 --   judged_so n j    whether a fact is so of the judgement j of n taps
 --   holds_fact c     whether a fact is so of a case
---   holds c         whether each fact of a case is so
---   cases           the list
+--   holds c          whether each fact of a case is so
+--   cases            the list
 use Rattle.std.specs.Prelude.{Bool, true, false, ◌&&◌, List, [], ◌∷◌, ◌++◌, map, ℕ, ◌+◌, eqb}
 use Rattle.std.proofs.Math.Option.{Option, none, some}
 use Prim.Native.String.{String}

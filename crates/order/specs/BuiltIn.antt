@@ -1,7 +1,7 @@
 -- The built-in order: docs/SPECIFICATION.md, 'Graded order'.
 --   of_weights w k   the numbers below 512 of the k weights from w on, by weight, and by number within a weight
---   graded          all 512 exponents, so ordered
---   Precedes u v    the exponent u stands before v in the built-in order: by weight, and by number within a weight
+--   graded           all 512 exponents, so ordered
+--   Precedes u v     the exponent u stands before v in the built-in order: by weight, and by number within a weight
 use Rattle.std.specs.Prelude.{◌≡◌, ◌⊎◌, List, [], ◌++◌, ℕ, zero, suc, ◌<◌, eqb}
 use Rattle.std.specs.Int.Count.{ones}
 use Rattle.cube.specs.NumberLists.{up_from, below, select}

@@ -1,7 +1,7 @@
 -- Orders of the 512 exponents.
---   Graded o         o lists each exponent below 512 once, and weights never fall along it
+--   Graded o          o lists each exponent below 512 once, and weights never fall along it
 --   is_column n d u   the exponent u is one of n taps and weighs at most d
---   columns o n d    these exponents, in the order o
+--   columns o n d     these exponents, in the order o
 use Rattle.std.specs.Prelude.{◌≡◌, Bool, ◌&&◌, List, ℕ, ◌<◌, ◌≤◌, ltb, leb, length, get_or}
 use Rattle.cube.specs.NumberLists.{select}
 use Rattle.cube.specs.Cube.{size, weight}

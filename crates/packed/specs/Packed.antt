@@ -1,13 +1,13 @@
 -- Rows packed into numbers of 64 bits, eight numbers to a row: bit c % 64, from the lowest, of number c / 64 is column c.
---   odd a             the lowest bit of a number
+--   odd a              the lowest bit of a number
 --   bits_of n a        the n lowest bits of a number, the lowest first
---   unpack ws         the row in a list of numbers
---   words ws j        the eight numbers of row j
+--   unpack ws          the row in a list of numbers
+--   words ws j         the eight numbers of row j
 --   unpack_rows n ws   the first n rows of a list of numbers
---   unpacked ws       the 1024 rows of the workspace
---   zeros n           n numbers that are zero
---   number v          the number whose bits are the row v, the first column lowest
---   pack m v          a row as m numbers of 64 bits
+--   unpacked ws        the 1024 rows of the workspace
+--   zeros n            n numbers that are zero
+--   number v           the number whose bits are the row v, the first column lowest
+--   pack m v           a row as m numbers of 64 bits
 use Rattle.std.specs.Prelude.{Bool, List, [], ◌∷◌, ◌++◌, ℕ, zero, suc, ◌+◌, ◌*◌, ◌/◌, ◌%◌, eqb, take, drop, replicate}
 use Rattle.gf2.specs.Vector.{Row, digit}
 

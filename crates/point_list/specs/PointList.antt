@@ -1,12 +1,12 @@
 -- Lists of points: docs/SPECIFICATION.md, 'Filter file'. The count, then the first point itself, then for each later
 -- point its difference from the one before.
---   before p o                    a point before the points that the outcome o draws
+--   before p o                     a point before the points that the outcome o draws
 --   point_by m prev least o f      a point below m, prev and the difference that the outcome o draws, and then the points of f
 --   points_from m k prev least s   k points below m from the bytes s: the next is prev and a difference of at least `least`
 --   list_by m o                    a list of points below m, whose count is what the outcome o draws
 --   point_list m s                 the list that the bytes s begin with: refused by 2, 3 or 5
---   RisingFrom low m ps           the points ps rise, from low on, and are below m
---   differences prev ps           the bytes of the points ps, each as its difference from the one before, the first from prev
+--   RisingFrom low m ps            the points ps rise, from low on, and are below m
+--   differences prev ps            the bytes of the points ps, each as its difference from the one before, the first from prev
 --   encode_list ps                 the bytes of the list ps
 --   mark_drawn b o                 the bytes b, marked at the points that the outcome o draws, with the bytes that remain
 use Rattle.std.specs.Prelude.{List, [], ◌∷◌, ◌++◌, ℕ, zero, suc, ◌+◌, ◌-◌, ◌≤◌, ◌<◌, leb, ltb, length}

@@ -1,5 +1,5 @@
 -- The rows of points in the workspace: row 512 + a is for the point a.
---   fill_to_512 xs        the numbers xs, then 65535 up to 512 numbers
+--   fill_to_512 xs      the numbers xs, then 65535 up to 512 numbers
 --   exponents o n       the exponents of n taps in the order o, then 65535, which lies within no point
 --   filled us n t       the rows t with the monomials us at each point of n taps in its place
 --   RowsFrom us n t a   those of the points from a on are in their places

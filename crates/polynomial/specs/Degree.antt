@@ -1,9 +1,9 @@
 -- Degree: docs/SPECIFICATION.md, 'Degree'.
---   exponents b        the exponents whose coefficient in b is 1, rising
+--   exponents b         the exponents whose coefficient in b is 1, rising
 --   degree_checks n b   the checks of Degree, in order
 --   degree_outcome n b  what Degree answers, lent the coefficients b
 --   outcome_of r        the outcome that an answer states
---   DegreeContract ..  the contract of Degree
+--   DegreeContract ..   the contract of Degree
 use Rattle.std.specs.Prelude.{◌≡◌, not, List, [], ◌∷◌, ◌++◌, ℕ}
 use Rattle.cube.specs.NumberLists.{largest, is_empty}
 use Rattle.cube.specs.Cube.{weight}

@@ -1,6 +1,6 @@
 -- Polynomials in n taps: docs/SPECIFICATION.md, 'Words'.
 --   Polynomial          a choice of exponents
---   sum_below m t        the sum modulo 2 of a test over the numbers below m
+--   sum_below m t       the sum modulo 2 of a test over the numbers below m
 --   value n p a         its value at the point a: the sum modulo 2 of the chosen monomials there
 --   UpTo n d p          no chosen exponent weighs more than d
 --   HasDegree n p k     k is the largest weight of a chosen exponent

@@ -1,10 +1,10 @@
 -- Rearrange: docs/SPECIFICATION.md, 'Rearrange'.
 --   Rearranged                     what Rearrange leaves: a set and a table
 --   rearranged n ts s f            the set s and the table f with their taps rearranged
---   wiring_of n ts                  14: ts is a wiring of n taps
---   rearrange_checks s f n ts       the checks of Rearrange, lent the set s, the table f and the wiring ts
---   rearrange_outcome s f n ts      what Rearrange leaves: the first refusal, or the set and the table rearranged
---   outcome_of r s f                what an answer, with the set s and the table f at exit, states
+--   wiring_of n ts                 14: ts is a wiring of n taps
+--   rearrange_checks s f n ts      the checks of Rearrange, lent the set s, the table f and the wiring ts
+--   rearrange_outcome s f n ts     what Rearrange leaves: the first refusal, or the set and the table rearranged
+--   outcome_of r s f               what an answer, with the set s and the table f at exit, states
 --   RearrangeContract o ..         the contract of Rearrange: it answers the outcome o, and leaves what that says
 --   RearrangeAccepts n s f ts x    Rearrange accepts n taps, the set s, the table f and the wiring ts, and leaves x
 use Rattle.std.specs.Prelude.{◌≡◌, List, [], ◌∷◌, ◌++◌, ℕ}

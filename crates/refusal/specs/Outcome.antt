@@ -1,10 +1,10 @@
 -- The outcome of an operation, what every contract says of answers and lent buffers: docs/SPECIFICATION.md, 'Outcomes'.
---   Outcome A           refused by a number, or accepted with values
---   Check               a test of the inputs, and the refusal where it fails: `test otherwise refusal`
---   after c o           the outcome o after the check c: refused where its test fails
---   checked cs o        the outcome o after the checks cs: refused by the first broken check, in order
---   mapped f o          the outcome o, with what f makes of the accepted values
---   left o old new      a lent buffer at exit: `new` where the outcome accepts, as at entry where it refuses
+--   Outcome A            refused by a number, or accepted with values
+--   Check                a test of the inputs, and the refusal where it fails: `test otherwise refusal`
+--   after c o            the outcome o after the check c: refused where its test fails
+--   checked cs o         the outcome o after the checks cs: refused by the first broken check, in order
+--   mapped f o           the outcome o, with what f makes of the accepted values
+--   left o old new       a lent buffer at exit: `new` where the outcome accepts, as at entry where it refuses
 --   left_by o old f      the same, where the accepted values give what is new
 use Rattle.std.specs.Prelude.{Bool, true, false, List, [], ◌∷◌, ℕ}
 use Rattle.refusal.specs.declared.Refusal.{Refusal}

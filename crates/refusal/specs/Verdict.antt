@@ -1,8 +1,8 @@
 -- The verdict of checks: the code of an operation threads it through its checks, in order.
 --   also_of v t r   the verdict v after one check more: it refuses by r where nothing is refused before and the test t fails
---   from v cs      the verdict v after the checks cs
---   verdict cs     the verdict of a list of checks
---   outcome v o    the outcome o after a verdict: its refusal, or o where the checks are passed
+--   from v cs       the verdict v after the checks cs
+--   verdict cs      the verdict of a list of checks
+--   outcome v o     the outcome o after a verdict: its refusal, or o where the checks are passed
 use Rattle.std.specs.Prelude.{Bool, true, false, List, [], ◌∷◌}
 use Rattle.refusal.specs.declared.Refusal.{Refusal}
 use Rattle.refusal.specs.declared.verdict.Verdict.{Verdict}

@@ -1,5 +1,5 @@
 -- Room in the sheet: the most bytes that each part of its text takes, as the sum of the rooms of that part's parts.
---   chosen_room          a small field for each of the 512 exponents or points
+--   chosen_room           a small field for each of the 512 exponents or points
 --   refused_line_room     the line for a refusal
 --   first_line_room       the first line
 --   rank_line_room        a rank line
@@ -8,9 +8,9 @@
 --   sides_line_room       the line of the sides' degrees
 --   sum_line_room         a sum line
 --   side_sums_room        the sum lines of a side, one for each point
---   sums_room            those of both sides
+--   sums_room             those of both sides
 --   additions_line_room   the line of the additions
---   text_room            the whole text: the lines in their order
+--   text_room             the whole text: the lines in their order
 use Rattle.std.specs.Prelude.{ℕ, ◌+◌, ◌*◌}
 use Rattle.text.specs.Room.{digits_room, field_room, small_field_room, newline_room, labelled_room}
 

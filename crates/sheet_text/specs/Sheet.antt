@@ -1,11 +1,11 @@
 -- The printed sheet: docs/SPECIFICATION.md, 'Sheet'.
 --   side_sums n s f d side   the sums of the certificate of a side at degree d, points rising
---   sums n s f k            those of degree k - 1 for the reported degree k, side 1 then 0; none if k is 0 or there is no degree
+--   sums n s f k             those of degree k - 1 for the reported degree k, side 1 then 0; none if k is 0 or there is no degree
 --   judgement_sheet n s f j  the sheet of a judgement
 --   filter_sheet n s f       the sheet of a filter
 --   sheet_of o               the sheet for what Read answers
---   sheet file              the sheet of a file
---   SheetContract file ..   the contract of the sheet: it stands at the front of the text, its length is answered, and what stood behind stays
+--   sheet file               the sheet of a file
+--   SheetContract file ..    the contract of the sheet: it stands at the front of the text, its length is answered, and what stood behind stays
 use Rattle.std.specs.Prelude.{◌≡◌, List, [], ◌++◌, ℕ, zero, suc, length, drop}
 use Rattle.std.proofs.Math.Option.{Option, none, some}
 use Rattle.refusal.specs.Outcome.{Outcome, refused, accepted}

@@ -2,7 +2,7 @@
 --   superset_sum k v u    the sum modulo 2 of v over the numbers below 2 to the power k that contain u
 --   superset_sums v       the row of these sums of a row of 512 columns: column u of it is the sum of the columns that contain u
 --   low_bit k p           bit k of the number p is 0
---   Stepped k v w        one step: where bit k of a number is 0, the value at the number with that bit is added
+--   Stepped k v w         one step: where bit k of a number is 0, the value at the number with that bit is added
 --   fold_of s m x         the number x, with its bits from bit s on added at the places of the mask m
 --   partner_of xs h i     number i + h of a list, if i is in the lower half of a block of twice h numbers, else 0
 use Rattle.std.specs.Prelude.{◌≡◌, Bool, ◌&&◌, cond, List, map, ℕ, ◌+◌, ◌/◌, ◌%◌, ◌^◌, eqb, get_or}

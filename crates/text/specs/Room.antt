@@ -1,10 +1,10 @@
 -- Room in a text: the most bytes that each part of it takes.
---   digits_room          the digits of a number of 64 bits
---   field_room           a space and such digits
+--   digits_room           the digits of a number of 64 bits
+--   field_room            a space and such digits
 --   small_digits_room     the digits of a number below 1,000
 --   small_field_room      a space and such digits
---   newline_room         the end of a line
---   labelled_room k      a word of k bytes, and a field
+--   newline_room          the end of a line
+--   labelled_room k       a word of k bytes, and a field
 use Rattle.std.specs.Prelude.{ℕ, ◌+◌}
 
 -- the digits of a number of 64 bits

@@ -1,10 +1,10 @@
 -- Varints, the house numbers of docs/SPECIFICATION.md, 'Terms' and 'Filter file': LEB128, one or two groups of
 -- seven bits, the lowest first, in the shortest form.
---   Bytes s           each number of the list s is a byte
+--   Bytes s            each number of the list s is a byte
 --   second_group x s   the number whose first byte is x, of two groups: its second byte is the first of the bytes s
---   groups last x s   the number whose first byte is x; `last` says whether that is its only group
---   varint s          the number that the bytes s begin with: refused by 2 or 3
---   shortest one v    the bytes of the number v in one group, or in two
+--   groups last x s    the number whose first byte is x; `last` says whether that is its only group
+--   varint s           the number that the bytes s begin with: refused by 2 or 3
+--   shortest one v     the bytes of the number v in one group, or in two
 --   encode_varint v    the bytes of the number v, below 2 to the power 14
 --   outcome_of s r     what the code's answer r says of the bytes s of a file
 use Rattle.std.specs.Prelude.{List, [], ◌∷◌, ℕ, ◌<◌, ◌+◌, ◌-◌, ◌*◌, ◌/◌, ◌%◌, Bool, true, false, leb, ltb, drop}

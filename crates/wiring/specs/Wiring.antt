@@ -1,16 +1,16 @@
 -- Wirings, and what they make of a mask: docs/SPECIFICATION.md, 'Rearrange'. Tap 1 is the highest bit.
---   Wiring n ts        ts names each of the taps 1 to n once, a permutation of 1 to n: entry i is the old tap that becomes tap i
+--   Wiring n ts         ts names each of the taps 1 to n once, a permutation of 1 to n: entry i is the old tap that becomes tap i
 --   names_all ts ks     each of the taps ks is named by ts, as a test
 --   is_wiring n ts      ts is a wiring, as a test: n entries, and each tap among them (proofs/Tested.antt, `wiring_tested`)
---   tap n t x          tap t of the point x
---   places n ts        the bits of the taps ts
---   spread bs a        the number whose bit at entry i of bs is bit i of a, counted from the highest
+--   tap n t x           tap t of the point x
+--   places n ts         the bits of the taps ts
+--   spread bs a         the number whose bit at entry i of bs is bit i of a, counted from the highest
 --   old_point n ts a    the old point of the new point a: its tap `entry i` is tap i of a (proofs/OldTaps.antt, `old_taps`, `old_only`)
---   rewired n ts b     the mask b with its taps rearranged
+--   rewired n ts b      the mask b with its taps rearranged
 --   one_if b k          1, or k + 1
 --   place_of ts t       the place of t in the list ts, from 1
---   inverse n ts       the wiring that undoes ts, the inverse permutation
---   identity n         the wiring that changes nothing, the identity permutation
+--   inverse n ts        the wiring that undoes ts, the inverse permutation
+--   identity n          the wiring that changes nothing, the identity permutation
 use Rattle.std.specs.Prelude.{◌≡◌, Bool, true, false, ◌&&◌, List, [], ◌∷◌, map, ℕ, suc, ◌-◌, ◌*◌, ◌/◌, ◌%◌, ◌^◌, ◌≤◌, ◌<◌, eqb, ltb, length, get_or}
 use Rattle.std.specs.Int.Bits.{bit_or}
 use Rattle.cube.specs.NumberLists.{up_from, below, lists}

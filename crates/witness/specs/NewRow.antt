@@ -1,7 +1,7 @@
 -- The workspace while the first new point is looked for: a point whose row is no sum of the kept rows.
 --   is_left kept row a     something is left of the row of the point a after it was reduced by the kept rows, as a test
 --   kept_with kept row p   the kept rows, and behind them what is left of the row of the point p, if there is one
---   FindsNew ..           the contract of the search: the first new point's row is kept, if there is one
+--   FindsNew ..            the contract of the search: the first new point's row is kept, if there is one
 use Rattle.std.specs.Prelude.{◌≡◌, Bool, not, List, [], ◌∷◌, ◌++◌, ℕ, ◌+◌, ◌≤◌, take, drop}
 use Rattle.std.proofs.Math.Option.{Option, none, some}
 use Rattle.gf2.specs.Vector.{Row}
