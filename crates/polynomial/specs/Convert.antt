@@ -1,13 +1,13 @@
 -- Convert: docs/SPECIFICATION.md, 'Convert'.
---   Bits s              each byte is 0 or 1
---   values n p          a byte for each point of n taps: the value of the polynomial p there
+--   Bits s               each byte is 0 or 1
+--   values n p           a byte for each point of n taps: the value of the polynomial p there
 --   lower_added h s      the first h bytes of s, and then their sums with the next h bytes
---   converted n b       the bytes below N become the values of the polynomial that the bytes choose; the others stay
+--   converted n b        the bytes below N become the values of the polynomial that the bytes choose; the others stay
 --   convert_checks n b   the checks of Convert, in order
 --   convert_outcome n b  what Convert answers, lent the bytes b
 --   convert_leaves n b   the bytes as Convert leaves them
 --   outcome_of r         the outcome that an answer states
---   ConvertContract ..         the contract of Convert
+--   ConvertContract ..   the contract of Convert
 use Rattle.std.specs.Prelude.{◌≡◌, List, ◌++◌, map, ℕ, ◌+◌, ◌≤◌, length, get_or, take, drop}
 use Rattle.std.specs.Int.Bits.{bit_xor}
 use Rattle.cube.specs.NumberLists.{below}
