@@ -1,32 +1,41 @@
 // Each argument names a filter file. The program writes the name of each and its sheet, one after the other.
-use libc::STDOUT_FILENO;
-use sheet_text::room::TEXT;
+#![tactic(auto)]
 
-// The name and the sheet of the file that argument `i` names.
-fn print_case(i: usize) {
-    let mut path = io::buffer();
-    let length = os::arg(i, &mut path);
-    let fd = os::open_read(&path[..length]);
-    if fd < 0 {
-        os::fail(&path[..length]);
-        return;
-    }
-    let mut file = io::buffer();
-    let n = io::read_full(fd, &mut file);
-    libc::close(fd);
+use sheet_text::room::TEXT;
+use sheet_text::sheet::sheet;
+use std::fs::File;
+use std::io::{Read, Write};
+use std::process::ExitCode;
+use std::{env, io};
+
+const READ_AT_MOST: u64 = 4096;
+
+// The name, and the sheet of the first 4,096 bytes of the input.
+fn print_case(
+    rt: &(impl Print + AllocGlobal),
+    name: &str,
+    input: impl Read + Drop,
+) -> io::Result<()> {
+    let mut file = Vec::new(rt.alloc());
+    input.take(READ_AT_MOST).read_to_end(&mut file)?;
     let mut text = [0u8; TEXT];
-    let k = sheet_text::sheet::sheet(&file[..n], &mut text);
-    io::write_all(STDOUT_FILENO, &path[..length]);
-    io::write_all(STDOUT_FILENO, b"\n");
-    io::write_all(STDOUT_FILENO, &text[..k]);
+    let length = sheet(&file, &mut text);
+    println!(rt; "{name}")?;
+    io::writer(rt).write_all(&text[..length])
 }
 
-// Every case, in the order of the arguments.
-fn main() {
-    let count = os::arg_count();
-    let mut i: usize = 1;
-    while i < count {
-        print_case(i);
-        i += 1;
+// Every case, in the order of the arguments. A file that can't be opened is named on standard error with the reason, the
+// cases behind it follow, and the status is 1 in the end.
+fn main(rt: HostRuntime) -> io::Result<ExitCode> {
+    let mut status = ExitCode::SUCCESS;
+    for name in env::args(&rt)?.skip(1) {
+        match File::open(&rt, &name) {
+            Ok(input) => print_case(&rt, name.as_str(), input)?,
+            Err(e) => {
+                eprintln!(rt; "{name}: {e}")?;
+                status = ExitCode::FAILURE;
+            }
+        }
     }
+    Ok(status)
 }

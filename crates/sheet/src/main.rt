@@ -1,12 +1,18 @@
 // The sheet program: docs/SPECIFICATION.md, 'Sheet'. It reads at most 4,096 bytes of standard input, and writes their
 // sheet.
-use libc::{STDIN_FILENO, STDOUT_FILENO};
-use sheet_text::room::TEXT;
+#![tactic(auto)]
 
-fn main() {
-    let mut file = io::buffer();
-    let n = io::read_full(STDIN_FILENO, &mut file);
+use sheet_text::room::TEXT;
+use sheet_text::sheet::sheet;
+use std::io;
+use std::io::{Read, Write};
+
+const READ_AT_MOST: u64 = 4096;
+
+fn main(rt: HostRuntime) -> io::Result<()> {
+    let mut file = Vec::new(rt.alloc());
+    rt.stdin().take(READ_AT_MOST).read_to_end(&mut file)?;
     let mut text = [0u8; TEXT];
-    let k = sheet_text::sheet::sheet(&file[..n], &mut text);
-    io::write_all(STDOUT_FILENO, &text[..k]);
+    let length = sheet(&file, &mut text);
+    rt.stdout().write_all(&text[..length])
 }
