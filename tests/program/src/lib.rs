@@ -1,4 +1,4 @@
-// Runs the proved sheet program, which `rt check sheet` writes, in a process of its own.
+// Runs the proved sheet program, which `rt run` in crates/sheet builds, in a process of its own.
 use independent::stored::root;
 use std::io::Write;
 use std::path::{Path, PathBuf};
@@ -10,16 +10,21 @@ const LIMIT: &str = "60";
 
 // The proved program, which must be there.
 pub fn sheet_program() -> PathBuf {
-    let program = root().join("target/bin/sheet");
-    assert!(program.exists(), "no program: run `rt check sheet` at the root of the repository");
+    let program = root().join("crates/sheet/out/sheet");
+    assert!(program.exists(), "no program: run `rt run` in crates/sheet");
     program
+}
+
+// A command that runs the program, and ends it with a bad status after so many seconds.
+pub fn limited_to(seconds: &str, program: &Path) -> Command {
+    let mut command = Command::new("timeout");
+    command.arg(seconds).arg(program);
+    command
 }
 
 // A command that runs the program, and ends it with a bad status after the time limit.
 pub fn limited(program: &Path) -> Command {
-    let mut command = Command::new("timeout");
-    command.arg(LIMIT).arg(program);
-    command
+    limited_to(LIMIT, program)
 }
 
 // What the command wrote. Its standard input is a pipe that `feed` writes to while the output is taken; the pipe stays

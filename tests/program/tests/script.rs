@@ -2,7 +2,7 @@
 use independent::samples::PRINTED_FILE;
 use independent::sheet::sheet;
 use independent::stored::root;
-use program::{limited, run};
+use program::{limited, limited_to, run};
 use std::fs::{self, File};
 use std::os::unix::fs::symlink;
 use std::path::{Path, PathBuf};
@@ -133,16 +133,21 @@ fn a_program_without_room_for_its_stack_is_told() {
 fn small_repository(name: &str, text: &str) -> Folder {
     let folder = Folder::new(name);
     fs::copy(script(), folder.0.join("sheet")).expect("a copy of the script");
-    folder.write("crates.txt", b"sheet: io libc\n");
+    folder.write("crates.txt", b"sheet:\n");
+    folder.write("crates/sheet/stdin", b"");
     folder.write("crates/sheet/stdout", b"refused 2\n");
-    let code = format!("fn main() {{\n    io::write_all(libc::STDOUT_FILENO, b\"{text}\");\n}}\n");
+    let body = format!("fn main(rt: HostRuntime) -> io::Result<()> {{\n    print!(rt; \"{text}\")\n}}\n");
+    let code = format!("#![tactic(auto)]\n\nuse std::io;\n\n{body}");
     folder.write("crates/sheet/src/main.rt", code.as_bytes());
     folder
 }
 
+// So many seconds may a run take that proves and builds: other proofs may run beside it.
+const BUILD_LIMIT: &str = "600";
+
 // What the copy of the script answers, with this search path.
 fn built_answer(folder: &Folder, path: &str) -> Answer {
-    let mut command = limited(&folder.0.join("sheet"));
+    let mut command = limited_to(BUILD_LIMIT, &folder.0.join("sheet"));
     command.env("PATH", path);
     answer_of(run(command, &[]))
 }
@@ -162,12 +167,12 @@ fn the_first_run_says_how_far_it_is_and_a_program_that_is_gone_is_built_again() 
         let lines: Vec<&str> = said.lines().collect();
         assert_eq!((lines.len(), lines[1]), (3, "sheet: 1 of 1: sheet is proved"), "{said}");
         assert_eq!(built_answer(&folder, &path()), (Some(3), printed, refusal.to_string()), "at once");
-        fs::remove_file(folder.0.join("target/bin/sheet")).expect("the program was there");
-        assert!(folder.0.join("target/stamp/sheet").exists(), "and its stamp stays");
+        fs::remove_file(folder.0.join("crates/sheet/out/sheet")).expect("the program was there");
+        assert!(folder.0.join("crates/sheet/out/sheet.stamp").exists(), "and its stamp stays");
     }
-    File::create(folder.0.join("target/bin/sheet")).expect("an empty file in its place");
+    File::create(folder.0.join("crates/sheet/out/sheet")).expect("an empty file in its place");
     assert_eq!(built_answer(&folder, &path()).0, Some(3));
-    folder.write("target/bin/sheet", b"");
+    folder.write("crates/sheet/out/sheet", b"");
     let said = "sheet: the program printed no sheet\n".to_string();
     assert_eq!(built_answer(&folder, &path()), (Some(1), String::new(), said), "an empty program");
 }
@@ -179,7 +184,7 @@ fn a_program_that_can_not_be_built_has_status_1_and_is_not_left_behind() {
         let (status, printed, said) = built_answer(&folder, &path());
         assert_eq!((status, &printed[..]), (Some(1), ""), "{said}");
         assert!(said.contains("target/log/sheet-build.log has all that rt said"), "{said}");
-        assert!(!folder.0.join("target/bin/sheet").exists(), "{said}");
+        assert!(!folder.0.join("crates/sheet/out/sheet").exists(), "{said}");
     }
 }
 
