@@ -109,8 +109,8 @@ fn certify_points(
 fn part_kept(ws: &mut [u64], order: &[u16], part: &[u8], n: usize, d: usize) -> [u8; 512]
     requires { (length ws.old ≡ 8192) × (length part.now ≡ 512) × Graded order.now × (n ≤ 9) × (d ≤ n)
         × Inside (size n) (points part.now) × RowsFrom (exponents order.now n) n (unpacked ws.old) 0 }
-    ensures part_kept { PartKept order.now n d part.now result }
-    ensures ws_unchanged { drop 512 (unpacked ws.new) ≡ drop 512 (unpacked ws.old) }
+    ensures marks_kept { PartKept order.now n d part.now result }
+    ensures point_rows_stay { drop 512 (unpacked ws.new) ≡ drop 512 (unpacked ws.old) }
 {
     let mut kept = [0u8; POINTS];
     keep_points(ws, order, part, n, d, &mut kept);

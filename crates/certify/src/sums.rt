@@ -38,7 +38,7 @@ fn combine_point(
 ) -> bool
     requires { (length ws.old ≡ 8192) × (length pivots.now ≡ 512) × (length places.now ≡ 512) × (kept < 512) × (a.0 < 512) × Pivots pivots.now (unpacked ws.old) kept × Places places.now kept (512 + a.0) }
     ensures ws_after { unpacked ws.new ≡ followed columns kept a.0 zero_row places.now (unpacked ws.old) }
-    ensures value { result ≡ not (is_zero (row_of (unpacked ws.new) kept)) }
+    ensures anything_left { result ≡ not (is_zero (row_of (unpacked ws.new) kept)) }
 {
     move_row(ws, kept, a, columns);
     reduce_both(ws, pivots, places, kept, kept, row_of(a));
@@ -90,8 +90,8 @@ pub fn combine_kept(
     requires { (length ws.old ≡ 8192) × (length set.now ≡ 512) × (length part.now ≡ 512) × (length kept.now ≡ 512) × Graded order.now × (n ≤ 9) × (d ≤ n)
         × Inside (size n) (points set.now) × ((a : ℕ) → Memᴰ a (points part.now) → Memᴰ a (points set.now))
         × RowsFrom (exponents order.now n) n (unpacked ws.old) 0 × PartKept order.now n d part.now kept.now }
-    ensures value { result ≡ eqb (rank_of order.now n d (points set.now)) (rank_of order.now n d (points part.now)) }
-    ensures ws_after { result ≡ true → (f : List ℕ) (side : ℕ) → points part.now ≡ part_of side set.now f
+    ensures ranks_equal { result ≡ eqb (rank_of order.now n d (points set.now)) (rank_of order.now n d (points part.now)) }
+    ensures certificate_written { result ≡ true → (f : List ℕ) (side : ℕ) → points part.now ≡ part_of side set.now f
         → written set.now part.now (unpacked ws.new) ≡ certificate_of order.now n set.now f side d }
 {
     let mut pivots = [0u16; COLUMNS];
@@ -104,8 +104,8 @@ pub fn combine_kept(
 // The eight numbers of the point `a` in the certificate become the row in its place.
 fn copy_row(ws: &[u64], a: Point, certificate: &mut [u64])
     requires { (length ws.now ≡ 8192) × (a.0 < 512) × (length certificate.old ≡ 4096) }
-    ensures by_index { (k : ℕ) → k < 8 → get_or certificate.new (8 * a.0 + k) 0 ≡ get_or ws.now ((512 + a.0) * 8 + k) 0 }
-    ensures by_index_2 { (i : ℕ) → (i < 8 * a.0) ⊎ (8 * a.0 + 8 ≤ i) → get_or certificate.new i 0 ≡ get_or certificate.old i 0 }
+    ensures row_copied { (k : ℕ) → k < 8 → get_or certificate.new (8 * a.0 + k) 0 ≡ get_or ws.now ((512 + a.0) * 8 + k) 0 }
+    ensures others_stay { (i : ℕ) → (i < 8 * a.0) ⊎ (8 * a.0 + 8 ≤ i) → get_or certificate.new i 0 ≡ get_or certificate.old i 0 }
 {
     let to = a.0 as usize * ROW_WORDS;
     let from = row_of(a) * ROW_WORDS;

@@ -82,11 +82,11 @@ fn mask_ranks(
     points: &mut [u16],
 ) -> MaskRanks
     requires { (length ws.old ≡ 8192) × (length mask.now ≡ 512) × AtMost 512 columns × (n ≤ 9) × (length pivots.old ≡ 512) × (length points.old ≡ 512) }
-    ensures ranks_value { result.ranks ≡ map (up_to n (rank_cut (unpacked ws.old) (points_of mask.now) columns)) (below 10) }
-    ensures additions_value { result.additions ≡ summed (additions_cut (unpacked ws.old) (points_of mask.now) columns) (below (n + 1)) }
-    ensures additions_bound { (result.additions ≤ 1342177280) × (drop 512 (unpacked ws.new) ≡ drop 512 (unpacked ws.old)) }
-    ensures kept_bound { (result.kept ≤ 512) × ((j : ℕ) → j < result.kept → get_or points.new j 0 < 512) }
-    ensures by_index { (c : ℕ) → points_below c (take result.kept pivots.new) (take result.kept points.new) ≡ (eliminate (stored (unpacked ws.old) c) (points_of mask.now)).points }
+    ensures ranks { result.ranks ≡ map (up_to n (rank_cut (unpacked ws.old) (points_of mask.now) columns)) (below 10) }
+    ensures additions { result.additions ≡ summed (additions_cut (unpacked ws.old) (points_of mask.now) columns) (below (n + 1)) }
+    ensures additions_bound_and_point_rows { (result.additions ≤ 1342177280) × (drop 512 (unpacked ws.new) ≡ drop 512 (unpacked ws.old)) }
+    ensures kept_below { (result.kept ≤ 512) × ((j : ℕ) → j < result.kept → get_or points.new j 0 < 512) }
+    ensures kept_of_each_width { (c : ℕ) → points_below c (take result.kept pivots.new) (take result.kept points.new) ≡ (eliminate (stored (unpacked ws.old) c) (points_of mask.now)).points }
 {
     let mut tally = [0u32; COLUMNS];
     let kept = eliminate_tallied(ws, pivots, points, &mut tally, mask);
@@ -142,11 +142,11 @@ pub fn all_ranks(
     points: &mut [u16],
 ) -> FoundRanks
     requires { Ready order.now n ws.old × Marks n set.now × Marks n one.now × Marks n zero.now × (length pivots.old ≡ 512) × (length points.old ≡ 512) }
-    ensures ranks_value { result.ranks ≡ map (ranks_up_to order.now n (points_of set.now) (pair (points_of one.now) (points_of zero.now))) (below 10) }
-    ensures additions_value { result.additions ≡ summed (λ d. additions_of order.now n d (points_of set.now) (pair (points_of one.now) (points_of zero.now))) (below (n + 1)) }
-    ensures ws_unchanged { drop 512 (unpacked ws.new) ≡ drop 512 (unpacked ws.old) }
-    ensures kept_bound { (result.kept ≤ 512) × ((j : ℕ) → j < result.kept → get_or points.new j 0 < 512) }
-    ensures by_index { (d : ℕ) → d ≤ n → points_below (column_count order.now n d) (take result.kept pivots.new) (take result.kept points.new) ≡ kept_points order.now n d (points_of set.now) }
+    ensures ranks { result.ranks ≡ map (ranks_up_to order.now n (points_of set.now) (pair (points_of one.now) (points_of zero.now))) (below 10) }
+    ensures additions { result.additions ≡ summed (λ d. additions_of order.now n d (points_of set.now) (pair (points_of one.now) (points_of zero.now))) (below (n + 1)) }
+    ensures point_rows_stay { drop 512 (unpacked ws.new) ≡ drop 512 (unpacked ws.old) }
+    ensures kept_below { (result.kept ≤ 512) × ((j : ℕ) → j < result.kept → get_or points.new j 0 < 512) }
+    ensures kept_of_each_degree { (d : ℕ) → d ≤ n → points_below (column_count order.now n d) (take result.kept pivots.new) (take result.kept points.new) ≡ kept_points order.now n d (points_of set.now) }
 {
     let columns = column_counts(order, n);
     let p = mask_ranks(ws, one, columns, n, pivots, points);
@@ -235,10 +235,10 @@ fn mark(ranks: [Ranks; 10], n: usize) -> usize
 // not that of the set, where there is one.
 pub fn found_degrees(ranks: [Ranks; 10], n: usize) -> FoundDegrees
     requires { n ≤ 9 }
-    ensures zero_value { degrees_of result.one result.zero ≡ both_sides (λ side. first (λ d. part_differs (get_or ranks d no_ranks) side) (below (n + 1))) }
-    ensures by_index { (k : ℕ) → first (λ d. differ (get_or ranks d no_ranks)) (below (n + 1)) ≡ some k → result.reported ≡ k }
-    ensures reported_le_n { result.reported ≤ n }
-    ensures mark_value { result.mark ≡ Option.get_or (mark_in ranks n) n }
+    ensures own_degrees { degrees_of result.one result.zero ≡ both_sides (λ side. first (λ d. part_differs (get_or ranks d no_ranks) side) (below (n + 1))) }
+    ensures reported_first { (k : ℕ) → first (λ d. differ (get_or ranks d no_ranks)) (below (n + 1)) ≡ some k → result.reported ≡ k }
+    ensures reported_at_most_n { result.reported ≤ n }
+    ensures mark { result.mark ≡ Option.get_or (mark_in ranks n) n }
 {
     let one = side_degree(ranks, n, 1);
     let zero = side_degree(ranks, n, 0);

@@ -171,11 +171,11 @@ module _ (s f : List ℕ) (n side d : ℕ) (c : List ℕ) where
 
   -- where the ranks differ every certificate gets a no
   differ_no : (p q : ℕ) → Admitted s f n side d c → Rank (rows graded n d (points s)) p → Rank (rows graded n d (part side s f)) q → p ≢ q → Answers false
-  differ_no p q held set_rank_lem part_rank other = answers_no.1 (
+  differ_no p q held rank_of_set part_rank other = answers_no.1 (
     held,
     λ right.
         let (r, set, part) = (same_rank n d s f side).0 (certifies_equal graded n d side s f c right) in
-        other (rank_unique set_rank_lem set ∙ rank_unique part part_rank),
+        other (rank_unique rank_of_set set ∙ rank_unique part part_rank),
   )
 
   -- those that Judge gives

@@ -98,7 +98,7 @@ demand2 = record {
     leaves n (convert_leaves n b) (again n b e) ∙ ap (converted n) (leaves n b e) ∙ converted_twice n b (formed n b e) (convert_fits n b (passed n b e)),
   );
   rank = λ b n d r e. rank_accepted graded b n d 8192 512 r e graded_is_graded graded_is_graded;
-  set_rank_lem = λ n s f j e d l. subst (Rank (rows graded n d (points s))) (set_kept n s f j e d l) (rank_of_lem graded n d (points s));
+  rank_of_set = λ n s f j e d l. subst (Rank (rows graded n d (points s))) (set_kept n s f j e d l) (rank_of_lem graded n d (points s));
   part_rank = λ n s f j e side d m l. subst (Rank (rows graded n d (part side s f))) (part_kept n s f j e d l side m) (rank_of_lem graded n d (part side s f));
   additions = rank_additions;
   set_additions = λ n s f j e d l. subst (λ r. FewAdditions (length (points s)) r (eliminated graded n d (points s)).additions) (set_kept n s f j e d l) (few_additions n d (points s));

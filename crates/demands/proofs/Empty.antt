@@ -115,7 +115,7 @@ nothing_found : (n : ℕ) (f : List ℕ) → NothingFound (judged graded n no_po
 unfolding judged
 nothing_found n f = record {
   ranks = ranks_none graded n no_points f points_none;
-  no_degree_lem = reported_none graded n no_points f points_none;
+  no_reported_degree = reported_none graded n no_points f points_none;
   no_side = no_side graded n no_points f points_none;
   no_own_degree = λ side l. of_both (side_degree graded n no_points f) side l ∙ side_degree_none graded n no_points f points_none side;
   no_mark = mark_none graded n no_points f points_none;

@@ -113,8 +113,8 @@ report_words n s f k p is = record {
     holds i l = buffer_holds graded n s f i l k is
 
     unequal : (i : ℕ) {w : Polynomial} → IsWitness graded n k (points s) (part i s f) w → ¬ EqualRanks graded n s f i k
-    unequal i x e = x.new_point_lem.new (each_member (λ a. SumOf (rows graded n k (part i s f)) (row graded n k a))
-        ((equal_sums graded n k (points s) (part i s f) (part_among i s f)).0 e) x.new_point_lem.inside)
+    unequal i x e = x.is_new_point.new (each_member (λ a. SumOf (rows graded n k (part i s f)) (row graded n k a))
+        ((equal_sums graded n k (points s) (part i s f) (part_among i s f)).0 e) x.is_new_point.inside)
 
 -- each of them, of one n, set and table
 words : (n : ℕ) (s f : List ℕ) → Filter n s f → JudgeWords n s f (judged graded n s f)

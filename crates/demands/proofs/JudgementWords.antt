@@ -32,6 +32,6 @@ judgement_words = record {
   rank_zeros = λ o ws ws' m m' a r h e. h.leaves ∙ ap (λ x. left x ws (zeros (length ws))) e;
   judge_zeros = λ o ws ws' w w' m m' a j h e. h.leaves ∙ ap (λ x. left x ws (zeros (length ws))) e;
   certify_zeros = λ o ws ws' c c' a x h e. h.leaves ∙ ap (λ y. cleared_unless y ws) e;
-  judge_number_alone = λ o ws ws' w w' m m' a k h e. h.no_ranks_lem ∙ ap (λ x. left_by x (replicate 10 no_ranks) (λ j. j.ranks)) e;
+  judge_number_alone = λ o ws ws' w w' m m' a k h e. h.answers_ranks ∙ ap (λ x. left_by x (replicate 10 no_ranks) (λ j. j.ranks)) e;
   sheet = sheet_words;
 }

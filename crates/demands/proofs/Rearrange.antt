@@ -53,7 +53,7 @@ use Rattle.wiring.proofs.OldTaps.{old_taps, old_only, identity_at, identity_wiri
 use Rattle.rearrange.proofs.Answers.{rearrange_accepted, accepts_wiring}
 use Rattle.demands.specs.Rearrange.{rearrange_rules, FilterOf, Rearranges, OldPoint, RankedAlike, JudgedAlike, AnyWiring}
 use Rattle.demands.proofs.Refusals.{rearrange_refuses}
-use Rattle.demands.proofs.RearrangedRanks.{set_rank_lem, part_rank, rearranged_ranks}
+use Rattle.demands.proofs.RearrangedRanks.{rank_of_set, part_rank, rearranged_ranks}
 
 -- an answer that states an acceptance is one
 accepted_answer : (r : RearrangeAnswer) (s f : List ℕ) (x : Rearranged) → outcome_of r s f ≡ accepted x → r ≡ answer.Accepted
@@ -213,7 +213,7 @@ any_wiring = record {
   ));
   named_once = wiring_each;
   tap_bit = λ n t a. refl;
-  old_point_lem = λ n ts w a. (
+  one_old_point = λ n ts w a. (
     old_point n ts a,
     record { inside = (moves w).inside a; taps = old_taps w a },
     λ q old. old_only w a q old.inside old.taps,
@@ -234,12 +234,12 @@ any_wiring = record {
   );
   unchanged = λ n s s' f f' r h. unchanged n s s' f f' r ((filter_says n s f).0 h);
   built_in = graded_is_graded;
-  set_rank_lem = of_accepted (λ n ts s s' f f'. (o : List ℕ) → Graded o → RankedAlike o n s s') (λ n ts s f h w o g.
+  rank_of_set = of_accepted (λ n ts s s' f f'. (o : List ℕ) → Graded o → RankedAlike o n s s') (λ n ts s f h w o g.
       ranked_alike o n s (rewired n ts s) h.tapped (h.set_long, h.set_formed) (rewired_long n ts s, rewired_formed n ts s)
-      (λ d. sym (set_rank_lem w (few_taps n s f h) g s h.set_formed d)));
+      (λ d. sym (rank_of_set w (few_taps n s f h) g s h.set_formed d)));
   table_rank = of_accepted (λ n ts s s' f f'. (o : List ℕ) → Graded o → RankedAlike o n f f') (λ n ts s f h w o g.
       ranked_alike o n f (rewired n ts f) h.tapped (h.table_long, h.table_formed) (rewired_long n ts f, rewired_formed n ts f)
-      (λ d. sym (set_rank_lem w (few_taps n s f h) g f h.table_formed d)));
+      (λ d. sym (rank_of_set w (few_taps n s f h) g f h.table_formed d)));
   part_rank = of_accepted (λ n ts s s' f f'. (o : List ℕ) → Graded o → (side : ℕ) → RankedAlike o n (mask (lists (part side s f))) (mask (lists (part side s' f'))))
       (λ n ts s f h w o g side.
       let h' : Filter n (rewired n ts s) (rewired n ts f) = rearranged_filter ts h in

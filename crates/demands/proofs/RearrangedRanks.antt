@@ -1,5 +1,5 @@
 -- The ranks of a rearranged filter.
---   set_rank_lem           the rank of a mask stays
+--   rank_of_set           the rank of a mask stays
 --   part_rank          and so does that of each part
 --   rearranged_ranks   so a filter and the rearranged one have the same ranks, and as many points
 use mathlib.Core.Path.{◌≡◌, sym}
@@ -21,8 +21,8 @@ use Rattle.demands.proofs.MovedRanks.{rank_images}
 
 module _ {n : ℕ} {ts : List ℕ} (w : Wiring n ts) (small : n ≤ 9) {o : List ℕ} (g : Graded o) where
   -- the rank of a mask stays
-  pub set_rank_lem : (s : List ℕ) → well_formed n s ≡ true → (d : ℕ) → rank_of o n d (points (rewired n ts s)) ≡ rank_of o n d (points s)
-  set_rank_lem s formed d =
+  pub rank_of_set : (s : List ℕ) → well_formed n s ≡ true → (d : ℕ) → rank_of o n d (points (rewired n ts s)) ≡ rank_of o n d (points s)
+  rank_of_set s formed d =
       rank_images g small d (moves w) (points s) (points (rewired n ts s)) (points_inside n s formed)
       (λ a i. ((rewired_points n ts s small a).0 i).1) (back_point w small s formed)
 
@@ -36,7 +36,7 @@ module _ {n : ℕ} {ts : List ℕ} (w : Wiring n ts) (small : n ≤ 9) {o : List
   -- so a filter and the rearranged one have the same ranks, and as many points
   pub rearranged_ranks : (s f : List ℕ) → well_formed n s ≡ true → well_formed n f ≡ true → SameRanks o o n s f (rewired n ts s) (rewired n ts f)
   rearranged_ranks s f formed table = record {
-    set = λ d. sym (set_rank_lem s formed d);
+    set = λ d. sym (rank_of_set s formed d);
     parts = λ side d. sym (part_rank s f formed table side d);
     count = sym (set_count w small s formed);
   }

@@ -106,7 +106,7 @@ pub record Demand2 : Type 0 where
   -- Rank's rank is the rank over the field of two elements of the matrix of the mask's points against the monomials up to the degree
   pub rank : (b : List ℕ) (n d : ℕ) (r : Ranking) → RankAccepts b n d r → Rank (rows graded n d (points b)) r.rank
   -- so are the ranks that Judge gives: of the set
-  pub set_rank_lem : (n : ℕ) (s f : List ℕ) (j : Judgement) → JudgeAccepts graded n s f j → (d : ℕ) → d ≤ n → Rank (rows graded n d (points s)) (set_rank j d)
+  pub rank_of_set : (n : ℕ) (s f : List ℕ) (j : Judgement) → JudgeAccepts graded n s f j → (d : ℕ) → d ≤ n → Rank (rows graded n d (points s)) (set_rank j d)
   -- and of each part
   pub part_rank : (n : ℕ) (s f : List ℕ) (j : Judgement) → JudgeAccepts graded n s f j → (side d : ℕ) → side ≤ 1 → d ≤ n
       → Rank (rows graded n d (part side s f)) (of_side side (part_ranks j d))

@@ -79,7 +79,7 @@ pub record NothingFound (j : Judgement) : Type 0 where
   -- all ranks are 0
   pub ranks : j.ranks ≡ replicate 10 no_ranks
   -- no degree exists,
-  pub no_degree_lem : j.degree ≡ none
+  pub no_reported_degree : j.degree ≡ none
   -- no side,
   pub no_side : j.side ≡ none
   -- no degree of either side,

@@ -89,7 +89,7 @@ pub record AnyWiring : Type 0 where
   -- tap t of a point is its bit n - t: tap 1 is the highest bit
   pub tap_bit : (n t a : ℕ) → tap n t a ≡ a / 2 ^ (n - t) % 2
   -- each new point has one old point, whose tap `entry i` is its tap i,
-  pub old_point_lem : (n : ℕ) (ts : List ℕ) → Wiring n ts → (a : ℕ) → (p : ℕ) × OldPoint n ts a p × ((q : ℕ) → OldPoint n ts a q → q ≡ p)
+  pub one_old_point : (n : ℕ) (ts : List ℕ) → Wiring n ts → (a : ℕ) → (p : ℕ) × OldPoint n ts a p × ((q : ℕ) → OldPoint n ts a q → q ≡ p)
   -- and what is left has at each new point the bytes of its old one, of the set and of the table,
   pub moved : (n : ℕ) (ts s s' f f' : List ℕ) → Rearranges n ts s s' f f' answer.Accepted → (a p : ℕ) → a < size n → OldPoint n ts a p
       → (get_or s' a 0 ≡ get_or s p 0) × (get_or f' a 0 ≡ get_or f p 0)
@@ -116,7 +116,7 @@ pub record AnyWiring : Type 0 where
   -- the order by which Rank and Judge go is graded, so what follows is said of it
   pub built_in : Graded graded
   -- Rank answers the same rank before and after, at each degree: of the set, which may be any mask,
-  pub set_rank_lem : (n : ℕ) (ts s s' f f' : List ℕ) → Rearranges n ts s s' f f' answer.Accepted → (o : List ℕ) → Graded o → RankedAlike o n s s'
+  pub rank_of_set : (n : ℕ) (ts s s' f f' : List ℕ) → Rearranges n ts s s' f f' answer.Accepted → (o : List ℕ) → Graded o → RankedAlike o n s s'
   -- of the table, which may be any mask too,
   pub table_rank : (n : ℕ) (ts s s' f f' : List ℕ) → Rearranges n ts s s' f f' answer.Accepted → (o : List ℕ) → Graded o → RankedAlike o n f f'
   -- and of the mask of each part

@@ -69,20 +69,20 @@ module _ {o : List ℕ} (g : Graded o) {n : ℕ} (small : n ≤ 9) (d : ℕ) (ss
   -- at most one polynomial of n taps is a witness
   pub is_unique : (v w : Polynomial) → IsWitness o n d ss ps v → IsWitness o n d ss ps w → (u : ℕ) → u < size n → v u ≡ w u
   is_unique v w x y u l =
-      let e : x.point ≡ y.point = new_point_unique x.new_point_lem y.new_point_lem in
-      only_choice x.point x.new_point_lem v x.on_new x.zero x.one u l
+      let e : x.point ≡ y.point = new_point_unique x.is_new_point y.is_new_point in
+      only_choice x.point x.is_new_point v x.on_new x.zero x.one u l
       ∙ ap (λ p. choice o n d (witness (row o n d) ps p) u) e
-      ∙ sym (only_choice y.point y.new_point_lem w y.on_new y.zero y.one u l)
+      ∙ sym (only_choice y.point y.is_new_point w y.on_new y.zero y.one u l)
 
   -- a witness is zero on the part and one somewhere on the set
   pub is_annihilator : {w : Polynomial} → IsWitness o n d ss ps w → Annihilator n w ps ss
-  is_annihilator x = record { zero = x.zero; point = x.point; inside = x.new_point_lem.inside; one = x.one }
+  is_annihilator x = record { zero = x.zero; point = x.point; inside = x.is_new_point.inside; one = x.one }
 
   -- only the coefficients matter
   pub is_same : (v w : Polynomial) → ((u : ℕ) → u < size n → v u ≡ w u) → IsWitness o n d ss ps v → IsWitness o n d ss ps w
   is_same v w h x = record {
     point = x.point;
-    new_point_lem = x.new_point_lem;
+    is_new_point = x.is_new_point;
     on_new = record { up_to = λ u l e. x.on_new.up_to u l (h u l ∙ e); new = rw (← columns_same) x.on_new.new };
     zero = each_map (λ a e. sym (value_same n v w a h) ∙ e) ps x.zero;
     one = sym (value_same n v w x.point h) ∙ x.one;
@@ -110,7 +110,7 @@ module _ {o : List ℕ} (g : Graded o) {n : ℕ} (small : n ≤ 9) (d : ℕ) (ss
         let c : Annihilator n (choice o n d x) ps ss = separates_annihilates g small d ss ps p point.inside x (witness_separates (row o n d) ps p point.new) in
         record {
           point = p;
-          new_point_lem = point;
+          is_new_point = point;
           on_new = record {
             up_to = choice_up_to g small d x;
             new = λ c e. witness_columns (row o n d) ps p point.new c (sym (columns_same c) ∙ e);

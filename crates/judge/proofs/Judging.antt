@@ -237,7 +237,7 @@ module _ (o s f : List ℕ) (n : ℕ) (ws one zero kept : List ℕ) where
       let broken : outcome ≡ refused (number_of x) = verdict_refuses checks _ e in
       record {
         answers = ap (λ y. found y r.ranks (pair one zero) kept) h.0 ∙ sym broken;
-        no_ranks_lem = h.1 ∙ sym (ap (λ y. left_by y (replicate 10 no_ranks) (λ j. j.ranks)) broken);
+        answers_ranks = h.1 ∙ sym (ap (λ y. left_by y (replicate 10 no_ranks) (λ j. j.ranks)) broken);
         leaves = sym (ap (λ y. left y ws (zeros (length ws))) broken);
         leaves_witnesses = sym (ap (λ y. left_by y (pair one zero) (λ j. j.witnesses)) broken);
         leaves_kept = sym (ap (λ y. left_by y kept (λ j. j.kept)) broken);
@@ -252,7 +252,7 @@ module _ (o s f : List ℕ) (n : ℕ) (ws one zero kept : List ℕ) where
       let passes : outcome ≡ accepted (judged o n s f) = verdict_passes checks _ p in
       record {
         answers = says ∙ ap accepted e ∙ sym passes;
-        no_ranks_lem = ranks ∙ ap (λ (j : Judgement). j.ranks) e ∙ sym (ap (λ y. left_by y (replicate 10 no_ranks) (λ j. j.ranks)) passes);
+        answers_ranks = ranks ∙ ap (λ (j : Judgement). j.ranks) e ∙ sym (ap (λ y. left_by y (replicate 10 no_ranks) (λ j. j.ranks)) passes);
         leaves = z ∙ sym (ap (λ y. left y ws (zeros (length ws))) passes);
         leaves_witnesses = bytes ∙ ap (λ (j : Judgement). j.witnesses) e ∙ sym (ap (λ y. left_by y (pair one zero) (λ j. j.witnesses)) passes);
         leaves_kept = marks ∙ ap (λ (j : Judgement). j.kept) e ∙ sym (ap (λ y. left_by y kept (λ j. j.kept)) passes);

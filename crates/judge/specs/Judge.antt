@@ -70,7 +70,7 @@ outcome_of r w m = found r.finding r.ranks w m
 -- what is answered, and how the workspace, the witness buffers and the mask of kept points are left
 pub record JudgeContract (o : Outcome Judgement) (ws ws' : List ℕ) (w w' : Sides (List ℕ)) (kept kept' : List ℕ) (r : JudgeAnswer) : Type 0 where
   pub answers : outcome_of r w' kept' ≡ o
-  pub no_ranks_lem : r.ranks ≡ left_by o (replicate 10 no_ranks) (λ j. j.ranks)
+  pub answers_ranks : r.ranks ≡ left_by o (replicate 10 no_ranks) (λ j. j.ranks)
   pub leaves : ws' ≡ left o ws (zeros (length ws))
   pub leaves_witnesses : w' ≡ left_by o w (λ j. j.witnesses)
   pub leaves_kept : kept' ≡ left_by o kept (λ j. j.kept)

@@ -132,11 +132,11 @@ fn without_ranks(finding: Finding) -> JudgeAnswer
 
 // Judge of a set without a point: the workspace, the witness buffers and `kept` become zero.
 fn judge_no_point(ws: &mut [u64], one: &mut [u8], zero: &mut [u8], kept: &mut [u8]) -> JudgeAnswer
-    ensures finding_value { (result.finding ≡ NoPoint) × (result.ranks ≡ replicate 10 no_ranks) }
-    ensures ws_after { ws.new ≡ zeros (length ws.old) }
-    ensures one_after { one.new ≡ zeros (length one.old) }
-    ensures zero_after { zero.new ≡ zeros (length zero.old) }
-    ensures kept_after { kept.new ≡ zeros (length kept.old) }
+    ensures no_point_found { (result.finding ≡ NoPoint) × (result.ranks ≡ replicate 10 no_ranks) }
+    ensures ws_cleared { ws.new ≡ zeros (length ws.old) }
+    ensures one_cleared { one.new ≡ zeros (length one.old) }
+    ensures zero_cleared { zero.new ≡ zeros (length zero.old) }
+    ensures kept_cleared { kept.new ≡ zeros (length kept.old) }
 {
     clear(ws);
     clear_bytes(one);
@@ -221,8 +221,8 @@ fn write_witnesses(
     requires { Ready order.now n ws.old × Marks n set.now × Marks n p.now × Marks n q.now × (d ≤ n) × (length one.old ≡ 512) × (length zero.old ≡ 512)
         × (r.set ≡ r.one → new_point order.now n d (points set.now) (points p.now) ≡ none)
         × (r.set ≡ r.zero → new_point order.now n d (points set.now) (points q.now) ≡ none) }
-    ensures one_after { one.new ≡ mask (witness_at order.now n d (points set.now) (points p.now)) }
-    ensures zero_after { zero.new ≡ mask (witness_at order.now n d (points set.now) (points q.now)) }
+    ensures witness_of_one { one.new ≡ mask (witness_at order.now n d (points set.now) (points p.now)) }
+    ensures witness_of_zero { zero.new ≡ mask (witness_at order.now n d (points set.now) (points q.now)) }
 {
     write_side(ws, order, set, p, n, d, part_differs(r, 1), one);
     write_side(ws, order, set, q, n, d, part_differs(r, 0), zero);

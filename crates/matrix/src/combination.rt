@@ -37,9 +37,9 @@ fn take_combining(
     columns: usize,
 ) -> usize
     requires { (length ws.old ≡ 8192) × (length pivots.old ≡ 512) × (length places.old ≡ 512) × (kept < 512) × (q.0 < 512) × Pivots pivots.old (unpacked ws.old) kept × Places places.old kept (512 + q.0) }
-    ensures ws_after { unpacked ws.new ≡ followed columns kept q.0 (padded 512 (unit q.0)) places.old (unpacked ws.old) }
-    ensures places_after { places.new ≡ set places.old kept (512 + q.0) }
-    ensures value { (result ≡ one_more_unless (is_zero (row_of (unpacked ws.new) kept)) kept) × (result ≤ kept + 1) }
+    ensures row_followed { unpacked ws.new ≡ followed columns kept q.0 (padded 512 (unit q.0)) places.old (unpacked ws.old) }
+    ensures place_taken { places.new ≡ set places.old kept (512 + q.0) }
+    ensures number_kept { (result ≡ one_more_unless (is_zero (row_of (unpacked ws.new) kept)) kept) × (result ≤ kept + 1) }
     ensures pivots { Pivots pivots.new (unpacked ws.new) result }
 {
     let place = row_of(q);
@@ -62,7 +62,7 @@ pub fn eliminate_combining(
 ) -> usize
     requires { (length ws.old ≡ 8192) × (length pivots.old ≡ 512) × (length places.old ≡ 512) × (length mask.now ≡ 512) }
     ensures combines { Combines (unpacked ws.old) (unpacked ws.new) columns (points mask.now) result places.new }
-    ensures upper_bound { result ≤ length (points mask.now) }
+    ensures kept_at_most_points { result ≤ length (points mask.now) }
     ensures pivots { Pivots pivots.new (unpacked ws.new) result × OutsidePlaces places.new result mask.now }
 {
     let mut kept: usize = 0;

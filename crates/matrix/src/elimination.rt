@@ -52,7 +52,7 @@ pub fn eliminate(
 ) -> Taken
     requires { (length ws.old ≡ 8192) × (length pivots.old ≡ 512) × (length points.old ≡ 512) × (length mask.now ≡ 512) }
     ensures eliminates { Eliminates (unpacked ws.old) (unpacked ws.new) columns (points_of mask.now) result.kept result.additions }
-    ensures kept_bound { (result.kept ≤ 512) × (result.additions ≤ 262144) }
+    ensures bounds { (result.kept ≤ 512) × (result.additions ≤ 262144) }
     ensures pivots { Pivots pivots.new (unpacked ws.new) result.kept }
     ensures kept_at { KeptAt (unpacked ws.old) columns (points_of mask.now) result.kept points.new }
 {

@@ -1,3 +1,4 @@
+#![tactic(auto)]
 // The matrix of points against monomials up to a degree, and its rank: docs/SPECIFICATION.md, 'Elimination' and 'Rank'.
 // In the workspace the kept rows are the first.
 pub mod elimination; // elimination.rt: the points of a mask are taken in rising number

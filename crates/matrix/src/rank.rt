@@ -75,9 +75,9 @@ fn rank_points(
     kept: &mut [u8],
 ) -> Ranked
     requires { (length mask.now ≡ 512) × (length workspace.old ≡ 8192) × (length kept.old ≡ 512) × (n ≤ 9) × (d ≤ n) × (well_formed n mask.now ≡ true) × Graded order.now }
-    ensures value { result ≡ ranked order.now n d (points_of mask.now) }
-    ensures workspace_after { workspace.new ≡ zeros (length workspace.old) }
-    ensures kept_after { kept.new ≡ kept_mask order.now n d (points_of mask.now) }
+    ensures ranked { result ≡ ranked order.now n d (points_of mask.now) }
+    ensures workspace_cleared { workspace.new ≡ zeros (length workspace.old) }
+    ensures kept_marked { kept.new ≡ kept_mask order.now n d (points_of mask.now) }
 {
     fill_rows(workspace, order, n);
     let ranked = keep_points(workspace, order, mask, n, d, kept);
@@ -98,9 +98,9 @@ pub fn keep_points(
 ) -> Ranked
     requires { (length ws.old ≡ 8192) × (length mask.now ≡ 512) × (length kept.old ≡ 512) × Graded order.now × (n ≤ 9) × (d ≤ n)
         × Inside (size n) (points_of mask.now) × RowsFrom (exponents order.now n) n (unpacked ws.old) 0 }
-    ensures value { result ≡ ranked order.now n d (points_of mask.now) }
-    ensures kept_after { kept.new ≡ kept_mask order.now n d (points_of mask.now) }
-    ensures ws_unchanged { drop 512 (unpacked ws.new) ≡ drop 512 (unpacked ws.old) }
+    ensures ranked { result ≡ ranked order.now n d (points_of mask.now) }
+    ensures kept_marked { kept.new ≡ kept_mask order.now n d (points_of mask.now) }
+    ensures point_rows_stay { drop 512 (unpacked ws.new) ≡ drop 512 (unpacked ws.old) }
 {
     let mut pivots = [0u16; COLUMNS];
     let mut points = [0u16; COLUMNS];

@@ -43,7 +43,7 @@ pub fn eliminate_tallied(
 ) -> usize
     requires { (length ws.old ≡ 8192) × (length pivots.old ≡ 512) × (length points.old ≡ 512) × (tally.old ≡ zeros 512) × (length mask.now ≡ 512) }
     ensures eliminates_all { EliminatesAll (unpacked ws.old) (unpacked ws.new) (points_of mask.now) result tally.new }
-    ensures upper_bound { (result ≤ 512) × AtMost 262144 tally.new }
+    ensures bounds { (result ≤ 512) × AtMost 262144 tally.new }
     ensures pivots { Pivots pivots.new (unpacked ws.new) result }
     ensures kept_at { KeptAt (unpacked ws.old) 512 (points_of mask.now) result points.new }
 {

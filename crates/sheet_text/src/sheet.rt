@@ -30,8 +30,8 @@ use sheet_lines::room::TEXT;
 
 // The sheet of the file is written at the front of the text; what stood behind it stays. The result is its length.
 pub fn sheet(file: &[u8], text: &mut [u8; TEXT]) -> usize
-    ensures prefix_len { IsPrefixLen result text.new }
-    ensures sheet_contract { SheetContract file.now text.old text.new result }
+    ensures length_in_text { IsPrefixLen result text.new }
+    ensures sheet_written { SheetContract file.now text.old text.new result }
 {
     let mut set = [0u8; POINTS];
     let mut table = [0u8; POINTS];

@@ -77,8 +77,8 @@ fn write_witness(
     requires { (length ws.old ≡ 8192) × (length set.now ≡ 512) × (length part.now ≡ 512) × (length witness.old ≡ 512)
         × Graded order.now × (n ≤ 9) × (d ≤ n) × Inside (size_of n) (points set.now) × Inside (size_of n) (points part.now)
         × RowsFrom (exponents order.now n) n (unpacked ws.old) 0 }
-    ensures witness_after { witness.new ≡ mask (witness_at order.now n d (points set.now) (points part.now)) }
-    ensures ws_unchanged { drop 512 (unpacked ws.new) ≡ drop 512 (unpacked ws.old) }
+    ensures witness_written { witness.new ≡ mask (witness_at order.now n d (points set.now) (points part.now)) }
+    ensures point_rows_stay { drop 512 (unpacked ws.new) ≡ drop 512 (unpacked ws.old) }
 {
     clear_bytes(witness);
     let mut pivots = [0u16; COLUMNS];
@@ -111,8 +111,8 @@ pub fn write_side(
         × Graded order.now × (n ≤ 9) × (d ≤ n) × Inside (size_of n) (points set.now) × Inside (size_of n) (points part.now)
         × RowsFrom (exponents order.now n) n (unpacked ws.old) 0
         × (differs ≡ false → new_point order.now n d (points set.now) (points part.now) ≡ none) }
-    ensures witness_after { witness.new ≡ mask (witness_at order.now n d (points set.now) (points part.now)) }
-    ensures ws_unchanged { drop 512 (unpacked ws.new) ≡ drop 512 (unpacked ws.old) }
+    ensures witness_written { witness.new ≡ mask (witness_at order.now n d (points set.now) (points part.now)) }
+    ensures point_rows_stay { drop 512 (unpacked ws.new) ≡ drop 512 (unpacked ws.old) }
 {
     if differs {
         write_witness(ws, order, set, part, n, d, witness);
