@@ -1,3 +1,4 @@
+#![tactic(auto)]
 // Rearrange: docs/SPECIFICATION.md, 'Rearrange'. The taps of a filter are rearranged by a wiring: the set and the table
 // are moved in place.
 ghost use Rattle.std.specs.Prelude.{◌≡◌, ℕ, ◌≤◌, ◌<◌, true, length, get_or};
