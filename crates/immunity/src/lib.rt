@@ -1,3 +1,4 @@
+#![tactic(auto)]
 // Restricted algebraic immunity: definitions and laws, the two types that they share with the code, and a length.
 // docs/SPECIFICATION.md, 'Words', 'Judge', 'Witness', 'Certificate' and 'Check'.
 
