@@ -12,11 +12,11 @@ use cube::TAPS_MAX;
 use packed::ROW_WORDS;
 
 // A row of 512 columns that stand for points, in eight numbers.
-#[derive(Drop)]
+#[derive(Clone, Copy)]
 pub struct PointRow(pub [u64; 8]);
 
 // A row of 512 columns that stand for exponents.
-#[derive(Drop)]
+#[derive(Clone, Copy)]
 pub struct ExponentRow(pub [u64; 8]);
 
 // The variables of a place inside a number of 64 bits.
