@@ -15,7 +15,7 @@ use lib.ListN.{length, get_or, length-map, get_or-eq_default}
 use Rattle.cube.specs.NumberLists.{below}
 use Rattle.cube.specs.Mask.{points}
 use Rattle.cube.proofs.Masks.{member_from, length_from, value_at}
-use Rattle.order.specs.Order.{Graded, columns}
+use Rattle.order.specs.Order.{Graded}
 use Rattle.order.proofs.DegreeColumns.{length_columns}
 use Rattle.gf2.specs.Elimination.{Elimination, eliminate}
 use Rattle.gf2.specs.Cut.{padded}

@@ -1,3 +1,4 @@
+#![tactic(auto)]
 // The ranks of a set and of its two parts at each degree, the degrees at which they differ first, and the mark:
 // docs/SPECIFICATION.md, 'Judge'.
 ghost use Rattle.std.specs.Prelude.{◌≡◌, map, ℕ, ◌+◌, ◌≤◌, ◌<◌, min, length, get_or, take, drop};

@@ -1,3 +1,4 @@
+#![tactic(auto)]
 // The witness of docs/SPECIFICATION.md, 'Witness': the polynomial that is zero on a part of the set, and not on all
 // of the set.
 ghost use Rattle.std.specs.Prelude.{◌≡◌, false, ◌≤◌, ◌<◌, length, drop};

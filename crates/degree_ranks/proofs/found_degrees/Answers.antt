@@ -1,5 +1,4 @@
 -- The reported degree is the smaller of the sides' own (first_or), where one exists; none counts as n (smaller_counted).
-use borrow.Author.Rules.{rules}
 use mathlib.Core.Path.{◌≡◌, sym, ap₂, ◌∙◌}
 use mathlib.Core.Bool.{Bool, ◌||◌}
 use mathlib.Core.Option.{Option, none, some, get_or}
@@ -11,8 +10,7 @@ use Rattle.matrix.proofs.Rising.{below_rising}
 use Rattle.immunity.specs.First.{first}
 use Rattle.immunity.specs.FirstDegree.{smaller}
 use Rattle.immunity.proofs.FirstUpTo.{first_degree, first_or, smaller_counted}
-use Rattle.degree_ranks.proofs.found_degrees.Statement.{statement}
-use Rattle.degree_ranks.proofs.found_degrees.Tie as tie
+use Rattle.degree_ranks.proofs.found_degrees.Goals as goal
 
 -- the first degree that passes, or n for none, is at most n
 counted : (t : ℕ → Bool) (n : ℕ) (x : Option ℕ) → x ≡ first t (below (n + 1)) → get_or x n ≤ n
@@ -32,22 +30,12 @@ module _ (t u : ℕ → Bool) (n : ℕ) {x y : Option ℕ} (e : x ≡ first t (b
     low : r ≤ n
     low = omega (arith, is, counted t n x e)
 
-returns : tie.Need-returns
+pub returns : goal.returns
 returns c =
-    let m = c.before in
-    let z = m.before in
-    let o = z.before in
-    let found = m.smaller-degree.ensures in (
-      ap₂ pair o.side-degree.ensures z.side-degree2.ensures,
-      (first-of-both _ _ _ o.side-degree.ensures z.side-degree2.ensures found, (low _ _ _ o.side-degree.ensures z.side-degree2.ensures found, c.mark.ensures)),
-    )
-
-pub found-degrees-spec : {M : Type 1} → statement M
-found-degrees-spec =
-    tie.close
-    (tie.spec
-    (λ c κs. search rules)
-    (λ c κs. search rules)
-    (λ c κs. search rules)
-    (λ c κs. search rules)
-    returns)
+    let found = c.smaller_degree.ensures in
+    record {
+      own_degrees = ap₂ pair c.side_degree-one.ensures c.side_degree-zero.ensures;
+      reported_first = first-of-both _ _ _ c.side_degree-one.ensures c.side_degree-zero.ensures found;
+      reported_at_most_n = low _ _ _ c.side_degree-one.ensures c.side_degree-zero.ensures found;
+      mark = c.mark.ensures;
+    }

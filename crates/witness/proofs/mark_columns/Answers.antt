@@ -1,0 +1,113 @@
+-- The loop's invariant: what the bytes are to be is the bytes now, with the columns from place i on marked where x, from column `count` on, is one.
+use mathlib.Core.Path.{◌≡◌, refl, sym, ap, ap₂, ◌∙◌}
+use mathlib.Core.Bool.{Bool, true, false, ◌&&◌}
+use mathlib.Core.List.{List, [], ◌∷◌}
+use Prim.Native.Nat.{ℕ, ◌+◌, ◌*◌, ◌<◌, ◌≤◌}
+use native.Mathlib.Numerals.{add-one}
+use native.Mathlib.Omega.{arith}
+use lib.Dec.{leb, ltb}
+use lib.ListN.{length, get_or, drop, set, length-set, drop_of_length-le}
+use lib.Seq.{drop-cons}
+use Rattle.cube.specs.NumberLists.{cons_if, select}
+use Rattle.cube.specs.Cube.{weight}
+use Rattle.cube.specs.Mask.{with_ones}
+use Rattle.order.specs.Order.{Graded, is_column}
+use Rattle.gf2.specs.Vector.{Row, entry, chosen}
+use Rattle.packed.specs.Packed.{unpack}
+use Rattle.packed.proofs.Words.{length_unpack}
+use Rattle.order.proofs.ColumnCount.{later_columns, columns_later}
+use Rattle.witness.proofs.mark_columns.Invariants.{marked}
+use Rattle.witness.proofs.mark_columns.Goals as goal
+use Rattle.witness.proofs.mark_columns.Goals.{else-entry_at, then-entry_at, else-is_column, then-is_column}
+
+-- of nothing nothing is chosen
+chosen-nil : (v : Row) → chosen {A = ℕ} v [] ≡ []
+unfolding chosen
+chosen-nil [] = refl
+chosen-nil (b ∷ v) = refl
+
+module _ {o : List ℕ} (g : Graded o) (n d : ℕ) (v : Row) (count i : ℕ) (b : List ℕ) (l : i < 512) where
+  -- the exponent at place i
+  abbrev here : ℕ
+  here = get_or o i 0
+
+  -- it is a column
+  column : is_column n d here ≡ true → count < length v → (z : Bool) → z ≡ entry v count
+      → marked o n d v count i b ≡ with_ones (chosen (z ∷ drop (count + 1) v) (here ∷ later_columns o n d (i + 1))) b
+  unfolding cons_if
+  column e h z q =
+      ap₂ (λ w cs. with_ones (chosen w cs) b) (drop-cons v count false h ∙ rw (add-one, q)) (columns_later g n d i l ∙ ap (λ y. cons_if y here (later_columns o n d (i + 1))) e)
+
+  -- it is one, and is marked
+  one : is_column n d here ≡ true → count < length v → true ≡ entry v count → marked o n d v count i b ≡ marked o n d v (count + 1) (i + 1) (set b here 1)
+  unfolding chosen with_ones
+  one e h q = column e h true q
+
+  -- it is one, and is not marked
+  other : is_column n d here ≡ true → count < length v → false ≡ entry v count → marked o n d v count i b ≡ marked o n d v (count + 1) (i + 1) b
+  unfolding chosen
+  other e h q = column e h false q
+
+  -- it is none
+  none : is_column n d here ≡ false → marked o n d v count i b ≡ marked o n d v count (i + 1) b
+  unfolding cons_if
+  none e = ap (λ cs. with_ones (chosen (drop count v) cs) b) (columns_later g n d i l ∙ ap (λ y. cons_if y here (later_columns o n d (i + 1))) e)
+
+-- at the end none is left
+marked-end : {o : List ℕ} → Graded o → (n d : ℕ) (v : Row) (count i : ℕ) (b : List ℕ) → 512 ≤ i → marked o n d v count i b ≡ b
+unfolding select with_ones
+marked-end {o} g n d v count i b h = rw (drop_of_length-le o {i = i} (omega (arith, g.long)), chosen-nil)
+
+pub loop-i-init : goal.loop-i-init
+loop-i-init c = (omega arith, omega arith, c.requires.3, refl)
+
+pub entry_at-requires : goal.entry_at-requires
+entry_at-requires c = (c.requires.2, omega arith)
+
+pub bounds-bytes-u : goal.bounds-bytes-u
+bounds-bytes-u c =
+    omega (arith, c.exponent_at-u.ensures, c.requires.0.inside c.loop-i.i (omega arith))
+
+pub loop-i-preserved : goal.loop-i-preserved
+loop-i-preserved c =
+    let o = c.args.order.now in
+    let n = c.args.n in
+    let d = c.args.d in
+    let v = unpack c.args.x.now in
+    let i = c.loop-i.i in
+    let x = get_or o i 0 in
+    let u : c.exponent_at-u.result.0 ≡ x = c.exponent_at-u.ensures in
+    let long : length v ≡ 512 = length_unpack c.args.x.now ∙ ap (λ m. m * 64) c.requires.2 in
+    let column : c.is_column.result ≡ is_column n d x = c.is_column.ensures
+    ∙ ap₂ (λ m y. ltb y m && leb (weight y) d) (c.size-points.ensures.0 (omega arith)) u in
+    elim c.if-is_column.branch [
+      | then-is_column w ↦ let e : is_column n d x ≡ true = sym column ∙ w.if-is_column.true in
+          elim w.if-entry_at.branch [
+            | then-entry_at z ↦
+                let stored = w.bytes-is ∙ z.bytes-is ∙ ap (λ y. set c.loop-i.bytes y 1) u in (
+                  omega arith,
+                  omega (arith, w.count-is),
+                  ap length stored ∙ length-set c.loop-i.bytes x 1 ∙ c.loop-i.invariant.2,
+                  c.loop-i.invariant.3 ∙ one c.requires.0 n d v c.loop-i.count i c.loop-i.bytes (omega arith) e (omega arith) (sym z.if-entry_at.true ∙ w.entry_at.ensures)
+                      ∙ sym (ap₂ (λ m b. marked o n d v m (i + 1) b) w.count-is stored),
+                )
+            | else-entry_at z ↦ (
+              omega arith,
+              omega (arith, w.count-is),
+              ap length (w.bytes-is ∙ z.bytes-is) ∙ c.loop-i.invariant.2,
+              c.loop-i.invariant.3 ∙ other c.requires.0 n d v c.loop-i.count i c.loop-i.bytes (omega arith) e (omega arith) (sym z.if-entry_at.false ∙ w.entry_at.ensures)
+                  ∙ sym (ap₂ (λ m b. marked o n d v m (i + 1) b) w.count-is (w.bytes-is ∙ z.bytes-is)),
+            )
+          ]
+      | else-is_column w ↦ (
+        omega arith,
+        omega (arith, w.count-is),
+        ap length w.bytes-is ∙ c.loop-i.invariant.2,
+        c.loop-i.invariant.3 ∙ none c.requires.0 n d v c.loop-i.count i c.loop-i.bytes (omega arith) (sym column ∙ w.if-is_column.false)
+            ∙ sym (ap₂ (λ m b. marked o n d v m (i + 1) b) w.count-is w.bytes-is),
+      )
+    ]
+
+pub returns : goal.returns
+returns c =
+    sym (c.loop-i.invariant.3 ∙ marked-end c.requires.0 c.args.n c.args.d (unpack c.args.x.now) c.loop-i.count c.loop-i.i c.loop-i.bytes (omega arith))
