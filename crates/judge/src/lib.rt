@@ -1,3 +1,4 @@
+#![tactic(auto)]
 // Judge: docs/SPECIFICATION.md, 'Judge'. The ranks of a set and of its two parts at each degree, the mark, the reported
 // degree, each side's own, the witnesses, and the kept points of the set.
 ghost use Rattle.std.specs.Prelude.{◌≡◌, false, ◌≤◌, length, replicate};

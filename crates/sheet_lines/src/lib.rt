@@ -1,3 +1,4 @@
+#![tactic(auto)]
 // The lines of the printed sheet, as text in a lent buffer, and the room that they take: docs/SPECIFICATION.md, 'Sheet'.
 
 pub mod lines; // lines.rt: the lines of the sheet

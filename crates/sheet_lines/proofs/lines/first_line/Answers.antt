@@ -1,0 +1,17 @@
+use Prim.Native.Nat.{◌≤◌}
+use native.Mathlib.Omega.{arith}
+use lib.ListN.{length}
+use Rattle.buffer.proofs.Appending.{appends_then}
+use Rattle.text.specs.Text.{ascii}
+use Rattle.sheet_lines.proofs.lines.first_line.Goals as goal
+
+pub returns : goal.returns
+unfolding ascii
+returns c =
+    let inside : c.args.at ≤ length c.args.text.now = omega (arith, c.requires) in
+    let behind : c.append_labelled-label.result ≤ length c.append_labelled-label.new.text = omega (arith, c.requires) in (
+      appends_then inside
+          (appends_then inside (appends_then inside c.append_labelled-points.ensures.appends c.append_labelled-label.ensures.appends) (appends_then behind c.append-of_mark.ensures c.degree_field-end.ensures.0))
+          c.end_line.ensures,
+      omega arith,
+    )
