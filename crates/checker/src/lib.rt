@@ -1,3 +1,4 @@
+#![tactic(auto)]
 // Check: docs/SPECIFICATION.md, 'Check'. Whether numbers are a certificate, whoever made it.
 ghost use Rattle.std.specs.Prelude.{◌≡◌, length};
 ghost use Rattle.refusal.specs.Outcome.{accepted};

@@ -1,0 +1,17 @@
+use mathlib.Core.Path.{◌≡◌}
+use mathlib.Core.Bool.{Bool, true}
+use mathlib.Core.List.{List}
+use Prim.Native.Nat.{ℕ, ◌-◌, ◌≤◌, ◌<◌}
+use Rattle.packed.specs.Packed.{unpack, words}
+use Rattle.checker.specs.CheckedRows.{checked_row}
+use Rattle.checker.proofs.checked_rows.rows_right.Given as goal
+
+-- the test of a point
+abbrev pub test : List ℕ → List ℕ → List ℕ → List ℕ → List ℕ → ℕ → Bool
+test certificate set part others columns a = checked_row set part (unpack others) (unpack columns) (unpack (words certificate a)) a
+
+abbrev pub invariant-loop-a : goal.invariant-loop-a
+invariant-loop-a l = (l.a ≤ 512) × ((b : ℕ) → b < l.a → test l.certificate l.set l.part l.others.0 l.columns.0 b ≡ true)
+
+abbrev pub decreases-loop-a : goal.decreases-loop-a
+decreases-loop-a l = 512 - l.a
