@@ -1,3 +1,4 @@
+#![tactic(auto)]
 // The printed sheet as text in a lent buffer: docs/SPECIFICATION.md, 'Sheet'.
 
 pub mod sheet; // sheet.rt: the sheet of a file
