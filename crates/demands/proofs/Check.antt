@@ -14,7 +14,7 @@ use lib.Pow.{pow_pos}
 use borrow.Author.Tests.{eqb-false}
 use Rattle.refusal.specs.Outcome.{Outcome, refused, accepted, Check, checked}
 use Rattle.refusal.specs.Verdict.{verdict}
-use Rattle.refusal.specs.declared.verdict.Verdict.TheVariants.{Passed, Refused}
+use Rattle.refusal.specs.declared.verdict.Verdict.TheVariants.{Passed}
 use Rattle.refusal.proofs.Outcomes.{not_both}
 use Rattle.refusal.proofs.Verdicts.{checked_append, verdict_refuses, accepted_passes, refused_either, refused_other}
 use Rattle.cube.specs.Mask.{points}
