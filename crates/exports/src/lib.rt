@@ -1,3 +1,4 @@
+#![tactic(auto)]
 // The operations for C and Rust: docs/SPECIFICATION.md, 'Library'. Each but Hand over answers 0 where it accepts, and else
 // the refusal's number; what it answers besides goes into lent numbers, which a refusal leaves as they were. Hand over
 // answers a length, which is 0 where it refuses.

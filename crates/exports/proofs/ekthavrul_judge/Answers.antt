@@ -1,5 +1,4 @@
 -- A report of a wrong length is refused, and nothing is written (refuses); else status and report are those of what Judge answers (answers).
-use borrow.Author.Rules.{rules}
 use mathlib.Core.Path.{◌≡◌, refl, ap, ◌∙◌}
 use mathlib.Core.List.{List}
 use Prim.Native.Nat.{ℕ}
@@ -17,8 +16,7 @@ use Rattle.judge.proofs.Passed.{Fits, accepted_fits}
 use Rattle.judge_report.specs.Report.{report_of, Reports}
 use Rattle.judge_report.proofs.Numbers.{stands, reportable}
 use Rattle.exports.specs.Exported.{JudgeStatus}
-use Rattle.exports.proofs.ekthavrul_judge.Statement.{statement}
-use Rattle.exports.proofs.ekthavrul_judge.Tie as tie
+use Rattle.exports.proofs.ekthavrul_judge.Goals as goal
 
 -- where a number is answered and nothing is written, that is a refusal
 refuses : {k r : ℕ} {ws : List ℕ} {w : Sides (List ℕ)} {m ns : List ℕ} → r ≡ k → JudgeStatus (refused k) ws ws w w m m ns ns r
@@ -57,41 +55,14 @@ answers {o} {ws} {ws'} {w} {w'} {m} {m'} {ns} {ns'} h says fits = record {
     is : (j : Judgement) → o ≡ accepted j → ns' ≡ report_of j
     is j a = report ∙ ap (λ y. left_by y ns report_of) a
 
--- the call of Judge, from where its answer goes into the report
-abbrev judging : tie.After-write-report-arg → tie.After-judge
-judging c = c.before.before.before.before.before.before.before.before.before
+pub returns-then-report-ne-REPORT : goal.returns-then-report-ne-REPORT
+returns-then-report-ne-REPORT c =
+    rw (ne_eqb (length c.args.report.now) 36 (λ e. omega (arith, c.if-report-ne-REPORT.true))) (refuses c.number.ensures)
 
--- the report has 36 numbers there
-abbrev long : (j : tie.After-judge) → tie.Else1
-long j = j.before.before.before.before.before
+pub write_report-requires : goal.write_report-requires
+write_report-requires c =
+    (omega (arith, c.if-report-ne-REPORT.false), reportable c.judge-answer.ensures (accepted_fits _ _ _ _ _ _ _ _))
 
-returns : tie.Need-returns
+pub returns : goal.returns
 returns c =
-    let s = c.before.before.before.before.before.before.before.before.before in
-    rw (ne_eqb (length s.args.report.now) 36 (λ e. omega (arith, c.before.if1.true))) (refuses c.number.ensures)
-
-write-report-requires : tie.Need-write-report-requires
-write-report-requires c κs =
-    let j = judging c in
-    (omega (arith, (long j).if1.left), reportable j.judge.ensures (accepted_fits _ _ _ _ _ _ _ _))
-
-returns-2 : tie.Need-returns-2
-returns-2 c =
-    let p = c.before.before in
-    let j = judging p.before in
-    rw (eq-eqb _ _ (long j).if1.left) (answers j.judge.ensures p.write-report.ensures (accepted_fits _ _ _ _ _ _ _ _))
-
-pub ekthavrul-judge-spec : {M : Type 1} → statement M
-ekthavrul-judge-spec =
-    tie.close
-    (tie.spec
-    (λ c κs. search rules)
-    returns
-    (λ c κs. search rules)
-    write-report-requires
-    (λ c. search rules)
-    (λ c. search rules)
-    (λ c. search rules)
-    (λ c. search rules)
-    (λ c. search rules)
-    returns-2)
+    rw (eq-eqb _ _ c.if-report-ne-REPORT.false) (answers c.judge-answer.ensures c.write_report.ensures (accepted_fits _ _ _ _ _ _ _ _))
