@@ -1,7 +1,8 @@
-#![tactic(auto)]
 // Bytes in a lent buffer: they are written from a place on, and all other bytes stay. The result of a function that writes
 // is the place behind what it wrote. `append` is `pub` for the crates that write texts and files, or copy into lent
 // buffers.
+#![tactic(auto)]
+
 ghost use Rattle.std.specs.Prelude.{◌+◌, ◌≤◌, length};
 ghost use Rattle.buffer.specs.Appends.{Appends};
 

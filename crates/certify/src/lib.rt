@@ -1,6 +1,7 @@
-#![tactic(auto)]
 // Certify: docs/SPECIFICATION.md, 'Certify'. For each point of the set outside a side's part, points of the part whose
 // rows sum to its row. Check, of certificates that anybody made, is the crate `checker`.
+#![tactic(auto)]
+
 ghost use Rattle.std.specs.Prelude.{◌≡◌, ◌≤◌, length, drop};
 ghost use Rattle.cube.specs.NumberLists.{Inside};
 ghost use Rattle.cube.specs.Cube.{size};

@@ -1,5 +1,6 @@
-#![tactic(auto)]
 // Check: docs/SPECIFICATION.md, 'Check'. Whether numbers are a certificate, whoever made it.
+#![tactic(auto)]
+
 ghost use Rattle.std.specs.Prelude.{◌≡◌, length};
 ghost use Rattle.refusal.specs.Outcome.{accepted};
 ghost use Rattle.refusal.specs.Verdict.{verdict};

@@ -1,5 +1,6 @@
-#![tactic(auto)]
 // Points and exponents of up to nine taps: docs/SPECIFICATION.md, 'Words'.
+#![tactic(auto)]
+
 ghost use Rattle.std.specs.Prelude.{◌≡◌, ◌≤◌, ◌<◌};
 ghost use Rattle.cube.specs.Cube.{taps, size as size_of, within as within_of, weight as weight_of};
 

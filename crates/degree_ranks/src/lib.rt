@@ -1,6 +1,7 @@
-#![tactic(auto)]
 // The ranks of a set and of its two parts at each degree, the degrees at which they differ first, and the mark:
 // docs/SPECIFICATION.md, 'Judge'.
+#![tactic(auto)]
+
 ghost use Rattle.std.specs.Prelude.{◌≡◌, map, ℕ, ◌+◌, ◌≤◌, ◌<◌, min, length, get_or, take, drop};
 ghost use Rattle.std.proofs.Math.Option;
 ghost use Rattle.std.proofs.Math.Option.{some};

@@ -1,7 +1,8 @@
-#![tactic(auto)]
 // The operations for C and Rust: docs/SPECIFICATION.md, 'Library'. Each but Hand over answers 0 where it accepts, and else
 // the refusal's number; what it answers besides goes into lent numbers, which a refusal leaves as they were. Hand over
 // answers a length, which is 0 where it refuses.
+#![tactic(auto)]
+
 ghost use Rattle.std.specs.Prelude.{◌≡◌, length};
 ghost use Rattle.refusal.specs.Outcome.{left_by};
 ghost use Rattle.refusal.specs.Status.{status_of};

@@ -1,7 +1,8 @@
-#![tactic(auto)]
 // The reader of filter files: docs/SPECIFICATION.md, 'Filter file'. One reader walks a file from its first byte and draws
 // its numbers: n, the list of the points of S and the list of the points where f is 1. What is `pub` is so for the crate of
 // the file alone.
+#![tactic(auto)]
+
 mod list; // list.rt: what a drawn number makes of a list of points
 pub mod progress; // progress.rt: how far a file is read
 pub mod reader; // reader.rt: the one reader, which draws them all

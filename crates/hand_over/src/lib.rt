@@ -1,5 +1,6 @@
-#![tactic(auto)]
 // Hand over: docs/SPECIFICATION.md, 'Hand over'. The part of a witness buffer that holds the witness of a side.
+#![tactic(auto)]
+
 ghost use Rattle.std.specs.Prelude.{◌≡◌, ◌≤◌};
 ghost use Rattle.filter.specs.Sides.{pair};
 ghost use Rattle.hand_over.specs.HandOver.{right, length_if, HandOverContract};

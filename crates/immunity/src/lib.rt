@@ -1,6 +1,6 @@
-#![tactic(auto)]
 // Restricted algebraic immunity: definitions and laws, the two types that they share with the code, and a length.
 // docs/SPECIFICATION.md, 'Words', 'Judge', 'Witness', 'Certificate' and 'Check'.
+#![tactic(auto)]
 
 // The numbers of a certificate: a row of eight for each of 512 points.
 pub const CERTIFICATE: usize = 4096;

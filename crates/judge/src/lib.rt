@@ -1,6 +1,7 @@
-#![tactic(auto)]
 // Judge: docs/SPECIFICATION.md, 'Judge'. The ranks of a set and of its two parts at each degree, the mark, the reported
 // degree, each side's own, the witnesses, and the kept points of the set.
+#![tactic(auto)]
+
 ghost use Rattle.std.specs.Prelude.{◌≡◌, false, ◌≤◌, length, replicate};
 ghost use Rattle.std.proofs.Math.Option.{none};
 ghost use Rattle.cube.specs.NumberLists.{is_empty};

@@ -1,7 +1,8 @@
-#![tactic(auto)]
 // The report: docs/SPECIFICATION.md, 'Library'. What Judge answers beside its buffers, as the numbers of one lent slice,
 // with an index for each. A number that is added later goes behind the last, so that no index ever changes.
 // include/ekthavrul.h gives C the same indices.
+#![tactic(auto)]
+
 ghost use Rattle.std.specs.Prelude.{◌≡◌, ◌≤◌, length, take};
 ghost use Rattle.std.proofs.Math.Option.{none, some};
 ghost use Rattle.filter.specs.Sides.{pair};

@@ -1,2 +1,2 @@
-#![tactic(auto)]
 // The numbered cases: docs/SPECIFICATION.md, 'Cases'. Definitions and laws alone.
+#![tactic(auto)]

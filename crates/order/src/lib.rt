@@ -1,6 +1,7 @@
-#![tactic(auto)]
 // The graded order: docs/SPECIFICATION.md, 'Graded order'. One constant table lists all 512 exponents by weight, and by
 // number within a weight.
+#![tactic(auto)]
+
 ghost use Rattle.std.specs.Prelude.{◌≡◌, ◌<◌, length, get_or};
 ghost use Rattle.order.specs.BuiltIn.{graded};
 

@@ -1,6 +1,7 @@
-#![tactic(auto)]
 // Rows packed into a lent workspace, and what an elimination does with them: docs/SPECIFICATION.md, 'Elimination'; and
 // single rows outside it. The rows are any rows. The functions that other crates use are kernels for the crates above.
+#![tactic(auto)]
+
 pub mod row; // row.rt: the rows of the workspace, one row at a time
 pub mod basis; // basis.rt: the kept rows, a basis of the span of the rows taken
 pub mod single; // single.rt: one row by itself, outside the workspace

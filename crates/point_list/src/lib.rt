@@ -1,7 +1,8 @@
-#![tactic(auto)]
 // Lists of points in a file: docs/SPECIFICATION.md, 'Filter file'. A list is its count, then the first point itself, then
 // for each later point its difference from the one before. The functions write the list of a mask's points into a lent
 // buffer, all other bytes of which stay; those that are `pub` are so for the crate of the file alone.
+#![tactic(auto)]
+
 ghost use Rattle.std.specs.Prelude.{◌+◌, ◌≤◌, length};
 ghost use Rattle.buffer.specs.Appends.{Appends};
 ghost use Rattle.cube.specs.Mask.{points};

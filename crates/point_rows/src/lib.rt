@@ -1,6 +1,7 @@
-#![tactic(auto)]
 // The rows of points: docs/SPECIFICATION.md, 'Elimination', the matrix. Each is put in its place in the workspace, with
 // its columns in an order of the exponents.
+#![tactic(auto)]
+
 ghost use Rattle.std.specs.Prelude.{◌≡◌, ◌+◌, ◌≤◌, ◌<◌, length, set, take, drop};
 ghost use Rattle.cube.specs.Cube.{size as size_of};
 ghost use Rattle.order.specs.Order.{Graded};

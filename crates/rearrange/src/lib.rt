@@ -1,6 +1,7 @@
-#![tactic(auto)]
 // Rearrange: docs/SPECIFICATION.md, 'Rearrange'. The taps of a filter are rearranged by a wiring: the set and the table
 // are moved in place.
+#![tactic(auto)]
+
 ghost use Rattle.std.specs.Prelude.{◌≡◌, ℕ, ◌≤◌, ◌<◌, true, length, get_or};
 ghost use Rattle.cube.specs.Cube.{size as size_of};
 ghost use Rattle.cube.specs.Mask.{well_formed};

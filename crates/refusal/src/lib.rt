@@ -1,5 +1,6 @@
-#![tactic(auto)]
 // What an operation refuses, and its number: docs/SPECIFICATION.md, 'Refusals'.
+#![tactic(auto)]
+
 ghost use Rattle.std.specs.Prelude.{◌≡◌};
 ghost use Rattle.refusal.specs.Refusal.{number_of};
 

@@ -1,5 +1,5 @@
-#![tactic(auto)]
 // The printed sheet as text in a lent buffer: docs/SPECIFICATION.md, 'Sheet'.
+#![tactic(auto)]
 
 pub mod sheet; // sheet.rt: the sheet of a file
 

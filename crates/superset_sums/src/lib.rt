@@ -1,6 +1,7 @@
-#![tactic(auto)]
 // Sums over supersets, on a row of 512 bits in eight numbers: docs/SPECIFICATION.md, 'Check'. It is the transpose of
 // Convert's transform: one step for each of nine variables, six inside the numbers and three between them.
+#![tactic(auto)]
+
 ghost use Rattle.std.specs.Prelude.{◌≡◌, map, ◌<◌, ◌≤◌, length, get_or};
 ghost use Rattle.std.specs.Int.Bits.{bit_xor};
 ghost use Rattle.cube.specs.NumberLists.{below};

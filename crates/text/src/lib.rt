@@ -1,7 +1,8 @@
-#![tactic(auto)]
 // Text in a lent buffer: numbers and fields are written from a place on, and all other bytes stay. The result of
 // each function is the place behind what it wrote. The functions are `pub` for the crates of the sheet alone:
 // docs/SPECIFICATION.md, 'Sheet'.
+#![tactic(auto)]
+
 ghost use Rattle.std.specs.Prelude.{◌++◌, ◌+◌, ◌*◌, ◌≤◌, ◌<◌, length};
 ghost use Rattle.buffer.specs.Appends.{Appends};
 ghost use Rattle.text.specs.Room.{digits_room, field_room, small_digits_room, small_field_room, newline_room};

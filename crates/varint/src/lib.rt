@@ -1,6 +1,7 @@
-#![tactic(auto)]
 // Varints (LEB128) of one or two groups of seven bits, in the shortest form. The contract of the work calls them house
 // numbers: docs/SPECIFICATION.md, 'Terms' and 'Filter file'.
+#![tactic(auto)]
+
 ghost use Rattle.std.specs.Prelude.{◌≡◌, ◌+◌, ◌≤◌, ◌<◌, length, drop};
 ghost use Rattle.buffer.specs.Appends.{Appends};
 ghost use Rattle.varint.specs.Varint.{varint, encode_varint, outcome_of};

@@ -1,6 +1,7 @@
-#![tactic(auto)]
 // Wirings: docs/SPECIFICATION.md, 'Words'. Here stands the test of a wiring; specs/Wiring.antt has what a wiring makes of
 // points and of masks.
+#![tactic(auto)]
+
 ghost use Rattle.std.specs.Prelude.{◌≡◌};
 ghost use Rattle.cube.specs.NumberLists.{lists};
 ghost use Rattle.wiring.specs.Wiring.{is_wiring};

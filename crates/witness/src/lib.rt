@@ -1,6 +1,7 @@
-#![tactic(auto)]
 // The witness of docs/SPECIFICATION.md, 'Witness': the polynomial that is zero on a part of the set, and not on all
 // of the set.
+#![tactic(auto)]
+
 ghost use Rattle.std.specs.Prelude.{◌≡◌, false, ◌≤◌, ◌<◌, length, drop};
 ghost use Rattle.std.proofs.Math.Option.{none};
 ghost use Rattle.cube.specs.Mask.{points, mask, with_ones};

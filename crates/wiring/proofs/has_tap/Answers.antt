@@ -8,7 +8,7 @@ pub loop-i-init : goal.loop-i-init
 loop-i-init c = (omega arith, refl)
 
 pub overflow_cast-wiring : goal.overflow_cast-wiring
-overflow_cast-wiring c = omega (arith, c.shared_slice_known-1.given c.loop-i.i)
+overflow_cast-wiring c = omega (arith, c.type_inv.wiring c.loop-i.i)
 
 pub returns-then-wiring-i : goal.returns-then-wiring-i
 returns-then-wiring-i c =

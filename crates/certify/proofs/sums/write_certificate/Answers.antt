@@ -34,7 +34,7 @@ loop-a-preserved c =
         omega arith,
         ap length w.certificate-is ∙ w.copy_row.auto.certificate ∙ i.1,
         subst To (sym w.certificate-is) (rows_yes a.set.now a.part.now a.ws.now c.loop-a.a c.requires.0 (omega arith) c.loop-a.certificate i.2 (sym c.is_outside.ensures ∙ w.if-is_outside.true)
-            (λ j. omega (arith, c.shared_slice_known-1.given j)) w.copy_row.new.certificate w.copy_row.ensures.row_copied w.copy_row.ensures.others_stay),
+            (λ j. omega (arith, c.type_inv.ws j)) w.copy_row.new.certificate w.copy_row.ensures.row_copied w.copy_row.ensures.others_stay),
       )
       | else-is_outside w ↦ (
         omega arith,

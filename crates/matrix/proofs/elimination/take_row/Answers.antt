@@ -10,17 +10,17 @@ use Rattle.packed.proofs.Rows.{length_rows}
 use Rattle.gf2.proofs.Steps.{pivots_set}
 use Rattle.matrix.proofs.Taking.{takes}
 use Rattle.matrix.proofs.elimination.take_row.Goals as goal
-use Rattle.matrix.proofs.elimination.take_row.Goals.{After-reduce-arg-1}
+use Rattle.matrix.proofs.elimination.take_row.Goals.{After-copy_columns}
 
 -- the pivots after the row was copied
-copied : (c : After-reduce-arg-1) →
+copied : (c : After-copy_columns) →
     Pivots c.args.pivots.now (unpacked c.copy_columns.new.ws) c.args.kept
 copied c =
     pivots_set c.args.pivots.now (unpacked c.args.ws.now) c.args.kept c.args.kept _ (unpacked c.copy_columns.new.ws) c.copy_columns.ensures (le_refl _) c.requires.4
 
 pub reduce-additions-requires : goal.reduce-additions-requires
 reduce-additions-requires c =
-    (c.copy_columns.auto.ws ∙ c.requires.0, c.requires.1, omega arith, omega arith, omega arith, copied (goal.at.reduce-additions-requires c).After-reduce-arg-1)
+    (c.copy_columns.auto.ws ∙ c.requires.0, c.requires.1, omega arith, omega arith, omega arith, copied (goal.at.reduce-additions-requires c).After-copy_columns)
 
 pub keep-requires : goal.keep-requires
 keep-requires c =
@@ -28,7 +28,7 @@ keep-requires c =
       c.reduce-additions.auto.ws ∙ c.copy_columns.auto.ws ∙ c.requires.0,
       c.requires.1,
       c.requires.2,
-      pivots_set c.args.pivots.now (unpacked c.copy_columns.new.ws) k k _ (unpacked c.reduce-additions.new.ws) c.reduce-additions.ensures.0.rows (le_refl _) (copied (goal.at.keep-requires c).After-reduce-arg-1),
+      pivots_set c.args.pivots.now (unpacked c.copy_columns.new.ws) k k _ (unpacked c.reduce-additions.new.ws) c.reduce-additions.ensures.0.rows (le_refl _) (copied (goal.at.keep-requires c).After-copy_columns),
     )
 
 pub returns : goal.returns

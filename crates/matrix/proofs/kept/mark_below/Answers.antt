@@ -15,7 +15,7 @@ use Rattle.gf2.proofs.PointsBelow.{below_next}
 use Rattle.packed.specs.Packed.{zeros}
 use Rattle.matrix.proofs.kept.mark_below.Invariants.{marked}
 use Rattle.matrix.proofs.kept.mark_below.Goals as goal
-use Rattle.matrix.proofs.kept.mark_below.Goals.{After-shared_slice_known-then-pivots-j-1, else-pivots-j, then-pivots-j}
+use Rattle.matrix.proofs.kept.mark_below.Goals.{Then-pivots-j, else-pivots-j, then-pivots-j}
 
 module _ (c : ℕ) (ps qs : List ℕ) (j : ℕ) (l : j < length ps) (m : j < length qs) where
   -- the next point is marked
@@ -38,18 +38,18 @@ loop-j-init c =
     (omega arith, c.clear_bytes.auto.bytes ∙ c.requires.2, c.clear_bytes.ensures ∙ ap zeros c.requires.2)
 
 pub overflow_cast-pivots : goal.overflow_cast-pivots
-overflow_cast-pivots c = omega (arith, c.shared_slice_known-in-loop-j-1.given c.loop-j.j)
+overflow_cast-pivots c = omega (arith, c.type_inv.pivots c.loop-j.j)
 
 -- the next point is below 512
-point : (c : After-shared_slice_known-then-pivots-j-1) →
+point : (c : Then-pivots-j) →
     get_or c.args.points.now c.loop-j.j 0 < 512
 point c = c.requires.4 c.loop-j.j (omega arith)
 
 pub overflow_cast-marks : goal.overflow_cast-marks
-overflow_cast-marks c = omega (arith, point (goal.at.overflow_cast-marks c).After-shared_slice_known-then-pivots-j-1)
+overflow_cast-marks c = omega (arith, point (goal.at.overflow_cast-marks c).Then-pivots-j)
 
 pub bounds-marks-a : goal.bounds-marks-a
-bounds-marks-a c = omega (arith, point (goal.at.bounds-marks-a c).After-shared_slice_known-then-pivots-j-1, c.loop-j.invariant.1)
+bounds-marks-a c = omega (arith, point (goal.at.bounds-marks-a c).Then-pivots-j, c.loop-j.invariant.1)
 
 pub loop-j-preserved : goal.loop-j-preserved
 loop-j-preserved c =

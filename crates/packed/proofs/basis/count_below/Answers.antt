@@ -23,7 +23,7 @@ unfolding count_to
 loop-j-init c = (omega arith, omega arith, omega arith)
 
 pub overflow_cast-pivots : goal.overflow_cast-pivots
-overflow_cast-pivots c = omega (arith, c.shared_slice_known-1.given c.loop-j.j)
+overflow_cast-pivots c = omega (arith, c.type_inv.pivots c.loop-j.j)
 
 pub loop-j-preserved : goal.loop-j-preserved
 loop-j-preserved c =

@@ -56,7 +56,7 @@ pub returns-then-w-ne0 : goal.returns-then-w-ne0
 returns-then-w-ne0 c =
     let w = get_or c.args.ws.now (c.args.row * 8 + c.loop-k.k) 0 in
     let p : 0 < w = omega arith in
-    let q : w < 2 ^ 64 = omega (arith, c.shared_slice_known-1.given (c.args.row * 8 + c.loop-k.k)) in
+    let q : w < 2 ^ 64 = omega (arith, c.type_inv.ws (c.args.row * 8 + c.loop-k.k)) in
     let e = found c.args.ws.now c.args.row c.loop-k.k c.requires.0 c.requires.1 (omega arith) p q in
     omega (arith, e)
 

@@ -57,7 +57,7 @@ returns-then-x-k-ne0 c =
     let x = c.args.x.now in
     let y = c.args.y.now in
     let k = c.loop-k.k in
-    let small : bit_and (get_or x k 0) (get_or y k 0) < 2 ^ 64 = omega (arith, c.shared_slice_known-in-loop-k-1.given k, and_le_r (get_or x k 0) (get_or y k 0)) in
+    let small : bit_and (get_or x k 0) (get_or y k 0) < 2 ^ 64 = omega (arith, c.type_inv.y k, and_le_r (get_or x k 0) (get_or y k 0)) in
     sym (found x y c.requires.0 c.requires.1 k (omega arith) c.loop-k.invariant.1 (omega arith) small)
 
 pub loop-k-preserved : goal.loop-k-preserved

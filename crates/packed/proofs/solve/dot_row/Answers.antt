@@ -15,7 +15,7 @@ use Rattle.packed.specs.Packed.{odd, unpack, words}
 use Rattle.packed.proofs.Parity.{odd_add, dot_words}
 use Rattle.packed.proofs.Rows.{get_d_words, length_words, row_at}
 use Rattle.packed.proofs.solve.dot_row.Goals as goal
-use Rattle.packed.proofs.solve.dot_row.Goals.{After-shared_slice_known-1}
+use Rattle.packed.proofs.solve.dot_row.Goals.{In-loop-k}
 
 -- a turn of the loop
 turn : (x u : List ℕ) (k count w : ℕ) → get_or u k 0 ≡ w → k < length x → k < length u → bit_and (get_or x k 0) w < 2 ^ 64
@@ -35,18 +35,18 @@ pub loop-k-init : goal.loop-k-init
 loop-k-init c = (omega arith, omega arith, sym (false_xor _))
 
 -- the common ones of two numbers, as a number
-abbrev both : (c : After-shared_slice_known-1) → ℕ
+abbrev both : (c : In-loop-k) → ℕ
 both c =
     bit_and (get_or c.args.x.now c.loop-k.k 0) (get_or c.args.ws.now (c.args.row * 8 + c.loop-k.k) 0)
 
 -- it has 64 bits
-small : (c : After-shared_slice_known-1) → both c < 2 ^ 64
+small : (c : In-loop-k) → both c < 2 ^ 64
 small c =
     let i = c.args.row * 8 + c.loop-k.k in
-    omega (arith, c.shared_slice_known-1.given i, and_le_r (get_or c.args.x.now c.loop-k.k 0) (get_or c.args.ws.now i 0))
+    omega (arith, c.type_inv.ws i, and_le_r (get_or c.args.x.now c.loop-k.k 0) (get_or c.args.ws.now i 0))
 
 pub overflow_add-count-in-loop-k : goal.overflow_add-count-in-loop-k
-overflow_add-count-in-loop-k c = omega (arith, ones-le 64 (both (goal.at.overflow_add-count-in-loop-k c).After-shared_slice_known-1) (small (goal.at.overflow_add-count-in-loop-k c).After-shared_slice_known-1))
+overflow_add-count-in-loop-k c = omega (arith, ones-le 64 (both (goal.at.overflow_add-count-in-loop-k c).In-loop-k) (small (goal.at.overflow_add-count-in-loop-k c).In-loop-k))
 
 pub loop-k-preserved : goal.loop-k-preserved
 loop-k-preserved c =
@@ -54,7 +54,7 @@ loop-k-preserved c =
     let u = words c.args.ws.now c.args.row in
     let eight : length u ≡ 8 = length_words c.args.ws.now c.args.row (omega arith) in
     let same : get_or u k 0 ≡ get_or c.args.ws.now (c.args.row * 8 + k) 0 = get_d_words c.args.ws.now c.args.row k (omega arith) in
-    (omega arith, omega (arith, ones-le 64 (both (goal.at.loop-k-preserved c).After-shared_slice_known-1) (small (goal.at.loop-k-preserved c).After-shared_slice_known-1)), c.loop-k.invariant.2 ∙ turn c.args.x.now u k c.loop-k.count _ same (omega arith) (omega arith) (small (goal.at.loop-k-preserved c).After-shared_slice_known-1))
+    (omega arith, omega (arith, ones-le 64 (both (goal.at.loop-k-preserved c).In-loop-k) (small (goal.at.loop-k-preserved c).In-loop-k)), c.loop-k.invariant.2 ∙ turn c.args.x.now u k c.loop-k.count _ same (omega arith) (omega arith) (small (goal.at.loop-k-preserved c).In-loop-k))
 
 pub returns : goal.returns
 returns c =
