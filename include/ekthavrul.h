@@ -1,5 +1,5 @@
 /*
- * The proved operations for C: link libexports.a, which `rt staticlib exports` writes to target/staticlib/.
+ * The proved operations for C: link libexports.a, which `rt lib` in crates/exports writes to its out/.
  * docs/SPECIFICATION.md says what each operation does.
  *
  * n is the number of taps. A point is a number below 2 to the power n, read in base 2 as x1 (highest bit) to xn.

@@ -30,7 +30,7 @@ use refusal::verdict::Verdict;
 mod sums; // sums.rt: the sums of the points outside a part
 
 // What Certify answers.
-#[derive(Drop)]
+#[derive(Clone, Copy)]
 pub enum CertifyAnswer {
     Refused(Refusal),
     Accepted,

@@ -78,6 +78,7 @@ fn combine_outside(
 // For each point of `set` outside `part` the points of the part whose rows sum to its row are put in its place, where
 // `kept` marks the kept points of the part: the combinations are over these alone. The result is whether the ranks of the
 // set and the part at degree `d` are equal: where they differ, some row is no such sum, and the workspace is scratch.
+#[inline(never)] // its pivots and places are on the stack only while it runs
 pub fn combine_kept(
     ws: &mut [u64],
     order: &[u16],

@@ -27,7 +27,7 @@ use Rattle.gf2.proofs.Common.{one_below, common_zero}
 use Rattle.gf2.proofs.Dot.{entry_add, entry_unit_is}
 use Rattle.gf2.proofs.Reducing.{is_zero_lem}
 use Rattle.packed.specs.Packed.{odd, unpack, words}
-use Rattle.packed.proofs.Rows.{get_d_words, length_words}
+use Rattle.packed.proofs.Rows.{get_or_words, length_words}
 use Rattle.packed.proofs.Words.{length_unpack, entry_word}
 use Rattle.polynomial.proofs.Sums.{sum_same, sum_add, sum_one, sum_over, sum_listed}
 use Rattle.filter.specs.Outside.{is_outside}
@@ -51,7 +51,7 @@ numbers_named c a long l = ext_get_or false (unpack (words c a)) (named c a) (wi
     at q h =
         let place : a * 8 + q / 64 ≡ 8 * a + q / 64 = omega arith in
         entry_word (words c a) q
-        ∙ ap (λ x. odd (x / 2 ^ (q % 64))) (get_d_words c a (q / 64) (omega arith) ∙ ap (λ i. get_or c i 0) place)
+        ∙ ap (λ x. odd (x / 2 ^ (q % 64))) (get_or_words c a (q / 64) (omega arith) ∙ ap (λ i. get_or c i 0) place)
         ∙ sym (value_at (bit_of c a) 512 q false h)
 
 -- choosing by a test is selecting

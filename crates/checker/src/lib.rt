@@ -21,7 +21,7 @@ use refusal::verdict::Verdict;
 mod checked_rows; // checked_rows.rt: the rows of a certificate, checked
 
 // What Check answers.
-#[derive(Drop)]
+#[derive(Clone, Copy)]
 pub enum CheckAnswer {
     Refused(Refusal),
     Yes,

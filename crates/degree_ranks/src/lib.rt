@@ -33,7 +33,7 @@ pub const DEGREES: usize = 10;
 
 // The ranks of one mask at each degree, the additions of the eliminations that find them, and the number of rows kept of
 // all columns.
-#[derive(Drop)]
+#[derive(Clone, Copy)]
 struct MaskRanks {
     ranks: [u16; 10],
     additions: u32,
@@ -41,7 +41,7 @@ struct MaskRanks {
 }
 
 // The ranks at each degree, all additions, and the number of rows of the set kept of all columns.
-#[derive(Drop)]
+#[derive(Clone, Copy)]
 pub struct FoundRanks {
     pub ranks: [Ranks; 10],
     pub additions: u32,
@@ -49,7 +49,7 @@ pub struct FoundRanks {
 }
 
 // The reported degree, the mark, and each side's own degree.
-#[derive(Drop)]
+#[derive(Clone, Copy)]
 pub struct FoundDegrees {
     pub reported: usize,
     pub mark: usize,

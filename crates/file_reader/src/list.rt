@@ -10,7 +10,7 @@ use refusal::Refusal;
 use varint::Varint;
 
 // A list whose count is drawn: what the file says so far, N, how many points are left, and what the next one is counted from.
-#[derive(Drop)]
+#[derive(Clone, Copy)]
 pub struct OpenList {
     pub progress: Progress,
     pub size: usize,

@@ -15,7 +15,7 @@ use varint::append_varint;
 const FILE_MAX: usize = 2053;
 
 // What Write answers: the length of the file, or why it is refused.
-#[derive(Drop)]
+#[derive(Clone, Copy)]
 pub enum WriteAnswer {
     Accepted(usize),
     Refused(Refusal),

@@ -35,7 +35,7 @@ use refusal::verdict::Verdict;
 use witness::write_side;
 
 // What Judge reports of a set with a point, beside the ranks; `one` is side 1's own degree, `zero` side 0's.
-#[derive(Drop)]
+#[derive(Clone, Copy)]
 pub struct Report {
     pub mark: usize,
     pub degree: usize,
@@ -47,7 +47,7 @@ pub struct Report {
 
 // What Judge found. A set without a point has no mark, no degree, no side and no degree of either side, and there are 0
 // additions.
-#[derive(Drop)]
+#[derive(Clone, Copy)]
 pub enum Finding {
     Refused(Refusal),
     NoPoint,
@@ -55,7 +55,7 @@ pub enum Finding {
 }
 
 // What Judge answers: the finding, and the ranks at each degree, all 0 past n, without a point and where Judge refuses.
-#[derive(Drop)]
+#[derive(Clone, Copy)]
 pub struct JudgeAnswer {
     pub finding: Finding,
     pub ranks: [Ranks; 10],

@@ -13,7 +13,7 @@ use packed::row::copy_columns;
 use point_rows::row_of;
 
 // The number of rows kept, and of additions made.
-#[derive(Drop)]
+#[derive(Clone, Copy)]
 pub struct Taken {
     pub kept: usize,
     pub additions: u32,

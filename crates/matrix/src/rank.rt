@@ -25,14 +25,14 @@ use refusal::Refusal;
 use refusal::verdict::Verdict;
 
 // A rank and the additions of its elimination.
-#[derive(Drop)]
+#[derive(Clone, Copy)]
 pub struct Ranked {
     pub rank: usize,
     pub additions: u32,
 }
 
 // What Rank answers.
-#[derive(Drop)]
+#[derive(Clone, Copy)]
 pub enum RankAnswer {
     Refused(Refusal),
     Accepted(Ranked),

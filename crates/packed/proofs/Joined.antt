@@ -13,7 +13,7 @@ use Rattle.gf2.specs.Vector.{Row}
 use Rattle.gf2.specs.Steps.{row_of}
 use Rattle.packed.specs.Packed.{unpacked, words}
 use Rattle.packed.proofs.Bitwise.{pairs, length_pairs, get_or_pairs, Bitwise, unpack_pairs}
-use Rattle.packed.proofs.Rows.{get_d_words, length_words, row_at, paste_old, paste_turn, paste_done}
+use Rattle.packed.proofs.Rows.{get_or_words, length_words, row_at, paste_old, paste_turn, paste_done}
 
 -- the eight numbers of rows p and q of d, joined one by one
 abbrev pub joined : (ℕ → ℕ → ℕ) → List ℕ → ℕ → ℕ → List ℕ
@@ -36,7 +36,7 @@ module _ {op : ℕ → ℕ → ℕ} {b : Bool → Bool → Bool} {f : Row → Ro
       let s : k < length (joined op d p q) = rw eight h in
       let t : k < length (words d p) = rw (length_words d p (omega arith)) h in
       let old : (j : ℕ) → get_or ws (j * 8 + k) 0 ≡ get_or (words d j) k 0 =
-      λ j. paste_old d to j (joined op d p q) ws k l ht eight e h ∙ sym (get_d_words d j k h) in
+      λ j. paste_old d to j (joined op d p q) ws k l ht eight e h ∙ sym (get_or_words d j k h) in
       let x : op (get_or ws (p * 8 + k) 0) (get_or ws (q * 8 + k) 0) ≡ get_or (joined op d p q) k 0 =
       ap₂ op (old p) (old q) ∙ sym (get_or_pairs op (words d p) (words d q) k same_words t) in
       paste_turn d (to * 8) (joined op d p q) ws k _ e x (omega arith) s

@@ -21,7 +21,7 @@ use Rattle.gf2.specs.Cut.{padded}
 use Rattle.gf2.specs.Steps.{row_of}
 use Rattle.packed.specs.Packed.{odd, bits_of, unpack, unpacked, number, pack, words}
 use Rattle.packed.proofs.Bitwise.{length_bits}
-use Rattle.packed.proofs.Rows.{get_d_words, length_words, row_at}
+use Rattle.packed.proofs.Rows.{get_or_words, length_words, row_at}
 
 -- a row of n columns makes a number of n bits
 pub number_bound : (v : Row) → number v < 2 ^ length v
@@ -74,7 +74,7 @@ word_columns (w ∷ u) (suc k) h b =
 pub row_word : (ws : List ℕ) (j k : ℕ) → length ws ≡ 8192 → j < 1024 → k < 8 → get_or ws (j * 8 + k) 0 < 2 ^ 64
     → number (take 64 (drop (k * 64) (row_of (unpacked ws) j))) ≡ get_or ws (j * 8 + k) 0
 row_word ws j k l h g b =
-    let same : get_or (words ws j) k 0 ≡ get_or ws (j * 8 + k) 0 = get_d_words ws j k g in
+    let same : get_or (words ws j) k 0 ≡ get_or ws (j * 8 + k) 0 = get_or_words ws j k g in
     ap (λ v. number (take 64 (drop (k * 64) v))) (row_at 1024 ws j h)
     ∙ word_columns (words ws j) k (rw (length_words ws j (omega arith)) g) (rw same b)
     ∙ same

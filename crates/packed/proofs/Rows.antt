@@ -1,5 +1,5 @@
 -- The rows of a workspace: the numbers of a row, and what stores to a row do to the rows.
---   get_d_words     number k of row j
+--   get_or_words     number k of row j
 --   length_words   there are eight
 --   length_rows    the number of rows
 --   row_at         row j is what its eight numbers hold
@@ -24,8 +24,8 @@ use Rattle.packed.specs.Packed.{unpack, unpack_rows, unpacked, words}
 use Rattle.packed.proofs.Words.{length_unpack}
 
 -- number k of row j
-pub get_d_words : (ws : List ℕ) (j k : ℕ) → k < 8 → get_or (words ws j) k 0 ≡ get_or ws (j * 8 + k) 0
-get_d_words ws j k h = get_or-take 8 (drop (j * 8) ws) k 0 h ∙ get_or-drop (j * 8) ws k 0
+pub get_or_words : (ws : List ℕ) (j k : ℕ) → k < 8 → get_or (words ws j) k 0 ≡ get_or ws (j * 8 + k) 0
+get_or_words ws j k h = get_or-take 8 (drop (j * 8) ws) k 0 h ∙ get_or-drop (j * 8) ws k 0
 
 -- there are eight
 pub length_words : (ws : List ℕ) (j : ℕ) → j * 8 + 8 ≤ length ws → length (words ws j) ≡ 8

@@ -84,7 +84,7 @@ fn fill_row(ws: &mut [u64], exponents: &[u16; 512], a: Point)
 }
 
 // Two points whose common bits are a third.
-#[derive(Drop)]
+#[derive(Clone, Copy)]
 struct Pair {
     p: Point,
     q: Point,

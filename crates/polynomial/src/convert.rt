@@ -13,7 +13,7 @@ use refusal::Refusal;
 use refusal::verdict::Verdict;
 
 // What Convert answers.
-#[derive(Drop)]
+#[derive(Clone, Copy)]
 pub enum ConvertAnswer {
     Refused(Refusal),
     Accepted,

@@ -12,7 +12,7 @@ use refusal::Refusal;
 use refusal::verdict::{Verdict, also};
 
 // What Degree answers.
-#[derive(Drop)]
+#[derive(Clone, Copy)]
 pub enum DegreeAnswer {
     Refused(Refusal),
     Accepted(u16),

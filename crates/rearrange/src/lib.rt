@@ -19,7 +19,7 @@ use refusal::verdict::{Verdict, also};
 use wiring::is_wiring;
 
 // What Rearrange answers.
-#[derive(Drop)]
+#[derive(Clone, Copy)]
 pub enum RearrangeAnswer {
     Refused(Refusal),
     Accepted,

@@ -4,7 +4,7 @@ ghost use Rattle.refusal.specs.Verdict.{also_of};
 
 use crate::Refusal;
 
-#[derive(Drop)]
+#[derive(Clone, Copy)]
 pub enum Verdict {
     Passed,
     Refused(Refusal),

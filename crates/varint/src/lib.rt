@@ -9,7 +9,7 @@ ghost use Rattle.varint.specs.Varint.{varint, encode_varint, outcome_of};
 use refusal::Refusal;
 
 // What stands at a place of a file: a number, with the place after it, or why there is none.
-#[derive(Drop)]
+#[derive(Clone, Copy)]
 pub enum Varint {
     Value { value: usize, next: usize },
     Refused(Refusal),

@@ -35,11 +35,11 @@ lengths c = let a = c.args in certify_lengths a.n a.set.now a.table.now a.side a
 
 -- at most nine taps
 small : (c : Start) → (let a = c.args in AtDegree a.n a.set.now a.table.now a.side a.d) → c.args.n ≤ 9
-small c shown = few_taps _ _ _ (shown).filter
+small c shown = few_taps _ _ _ shown.filter
 
 -- the points of the set are points of n taps
 inside-set : (c : Start) → (let a = c.args in AtDegree a.n a.set.now a.table.now a.side a.d) → Inside (size c.args.n) (points c.args.set.now)
-inside-set c shown = points_inside _ _ (shown).filter.set_formed
+inside-set c shown = points_inside _ _ shown.filter.set_formed
 
 pub part_mask-part-requires : goal.part_mask-part-requires
 part_mask-part-requires c = let h = (shown (goal.at.part_mask-part-requires c).Start).filter in (h.set_long, h.table_long)
@@ -61,11 +61,11 @@ among q p m =
 rows : (f : After-fill_rows) → (f.args.n ≤ 9) → let a = f.args in RowsFrom (exponents a.order.now a.n) a.n (unpacked f.fill_rows.new.ws) 0
 rows f small =
     let a = f.args in
-    rw f.fill_rows.ensures (filled_rows (exponents a.order.now a.n) a.n (small) (unpacked a.workspace.now) (length_rows 1024 a.workspace.now))
+    rw f.fill_rows.ensures (filled_rows (exponents a.order.now a.n) a.n small (unpacked a.workspace.now) (length_rows 1024 a.workspace.now))
 
 -- the workspace keeps its length
 filled-length : (f : After-fill_rows) → (let a = f.args in (length a.workspace.now ≡ 8192) × (length a.certificate.now ≡ 4096)) → length f.fill_rows.new.ws ≡ 8192
-filled-length f lengths = f.fill_rows.auto.ws ∙ (lengths).0
+filled-length f lengths = f.fill_rows.auto.ws ∙ lengths.0
 
 pub part_kept-kept-requires : goal.part_kept-kept-requires
 part_kept-kept-requires c =

@@ -25,7 +25,7 @@ ready-zero p = ready_after p.mask_ranks-p.new.ws p.mask_ranks-p.auto.ws p.mask_r
 
 -- and after part 0 was
 ready-set : (q : After-mask_ranks-q) → (let a = q.args in Ready a.order.now a.n q.mask_ranks-p.new.ws) → let a = q.args in Ready a.order.now a.n q.mask_ranks-q.new.ws
-ready-set q ready-zero = ready_after q.mask_ranks-q.new.ws q.mask_ranks-q.auto.ws q.mask_ranks-q.ensures.additions_bound_and_point_rows.1 (ready-zero)
+ready-set q ready-zero = ready_after q.mask_ranks-q.new.ws q.mask_ranks-q.auto.ws q.mask_ranks-q.ensures.additions_bound_and_point_rows.1 ready-zero
 
 pub mask_ranks-p-requires : goal.mask_ranks-p-requires
 mask_ranks-p-requires c =

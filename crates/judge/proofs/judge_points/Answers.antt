@@ -30,7 +30,7 @@ shown s = let a = s.args in judge_passed a.n a.set.now a.table.now (length a.ws.
 
 -- at most nine taps
 small : (s : Start) → (let a = s.args in Passes a.n a.set.now a.table.now (length a.ws.now) (length a.one.now) (length a.zero.now) (length a.kept.now)) → s.args.n ≤ 9
-small s shown = few_taps _ _ _ (shown).filter
+small s shown = few_taps _ _ _ shown.filter
 
 pub part_mask-part_one-requires : goal.part_mask-part_one-requires
 part_mask-part_one-requires c = let h = (shown (goal.at.part_mask-part_one-requires c).Start).filter in (h.set_long, h.table_long)
@@ -43,7 +43,7 @@ fill_rows-requires c = ((shown (goal.at.fill_rows-requires c).Start).workspace_l
 
 -- the set marks points of n taps
 marks-set : (s : Start) → (let a = s.args in Passes a.n a.set.now a.table.now (length a.ws.now) (length a.one.now) (length a.zero.now) (length a.kept.now)) → Marks s.args.n s.args.set.now
-marks-set s shown = let h = (shown).filter in record { long = h.set_long; inside = points_inside _ _ h.set_formed }
+marks-set s shown = let h = shown.filter in record { long = h.set_long; inside = points_inside _ _ h.set_formed }
 
 -- so does the mask of a part
 marks-part : {n : ℕ} {s : List ℕ} → Marks n s → (side : ℕ) (f b : List ℕ) → length b ≡ 512 → points b ≡ part side s f → Marks n b
@@ -51,11 +51,11 @@ marks-part {s = s} m side f b l e = record { long = l; inside = rw e (part_insid
 
 -- that of part 1
 marks-one : (p : After-part_mask-part_one) → (Marks p.args.n p.args.set.now) → Marks p.args.n p.part_mask-part_one.result
-marks-one p marks-set = marks-part (marks-set) 1 p.args.table.now p.part_mask-part_one.result (search rules) p.part_mask-part_one.ensures
+marks-one p marks-set = marks-part marks-set 1 p.args.table.now p.part_mask-part_one.result (search rules) p.part_mask-part_one.ensures
 
 -- and that of part 0
 marks-zero : (q : After-part_mask-part_zero) → (Marks q.args.n q.args.set.now) → Marks q.args.n q.part_mask-part_zero.result
-marks-zero q marks-set = marks-part (marks-set) 0 q.args.table.now q.part_mask-part_zero.result (search rules) q.part_mask-part_zero.ensures
+marks-zero q marks-set = marks-part marks-set 0 q.args.table.now q.part_mask-part_zero.result (search rules) q.part_mask-part_zero.ensures
 
 -- the points of the two masks are those of the parts
 two-parts : (q : After-part_mask-part_zero) → let a = q.args in pair (points q.part_mask-part_one.result) (points q.part_mask-part_zero.result) ≡ both_parts a.set.now a.table.now
@@ -66,10 +66,10 @@ filled-ready : (f : After-fill_rows) → (let a = f.args in Passes a.n a.set.now
 filled-ready f shown small =
     let a = f.args in
     record {
-      long = f.fill_rows.auto.ws ∙ (shown).workspace_long;
+      long = f.fill_rows.auto.ws ∙ shown.workspace_long;
       ordered = f.requires.2;
       small = small;
-      rows = rw f.fill_rows.ensures (filled_rows (exponents a.order.now a.n) a.n (small) (unpacked a.ws.now) (length_rows 1024 a.ws.now));
+      rows = rw f.fill_rows.ensures (filled_rows (exponents a.order.now a.n) a.n small (unpacked a.ws.now) (length_rows 1024 a.ws.now));
     }
 
 pub all_ranks-found-requires : goal.all_ranks-found-requires
@@ -85,7 +85,7 @@ low k small = omega (arith, k.found_degrees-degrees.ensures.reported_at_most_n, 
 
 -- the workspace is still ready
 ranked-ready : (r : After-all_ranks-found) → (let a = r.args in Ready a.order.now a.n r.fill_rows.new.ws) → let a = r.args in Ready a.order.now a.n r.all_ranks-found.new.ws
-ranked-ready r filled-ready = ready_after r.all_ranks-found.new.ws r.all_ranks-found.auto.ws r.all_ranks-found.ensures.point_rows_stay (filled-ready)
+ranked-ready r filled-ready = ready_after r.all_ranks-found.new.ws r.all_ranks-found.auto.ws r.all_ranks-found.ensures.point_rows_stay filled-ready
 
 pub overflow_cast-k : goal.overflow_cast-k
 overflow_cast-k c = omega (arith, c.found_degrees-degrees.ensures.reported_at_most_n, small (goal.at.overflow_cast-k c).Start (shown (goal.at.overflow_cast-k c).Start))

@@ -19,7 +19,7 @@ sized c = (c.size-points.ensures.0 (omega (arith, c.requires.0)), pow_mono c.req
 -- in a turn the point and its old point are below 512
 near : (c : In-loop-a) → ((c.size-points.result ≡ size c.args.n) × (size c.args.n ≤ 512)) → (c.loop-a.a < 512) × (get_or c.args.old.now c.loop-a.a 0 < 512)
 near c sized =
-    (omega (arith, (sized).0, (sized).1), c.requires.4 c.loop-a.a (omega (arith, (sized).0)))
+    (omega (arith, sized.0, sized.1), c.requires.4 c.loop-a.a (omega (arith, sized.0)))
 
 pub loop-a-init : goal.loop-a-init
 loop-a-init c = (omega arith, fills_none _)

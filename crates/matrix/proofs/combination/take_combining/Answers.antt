@@ -50,7 +50,7 @@ reduced : (c : After-reduce_both) → (let s = c.args in let t = unpacked s.ws.n
 unfolding followed
 reduced c started =
     let s = c.args in
-    c.reduce_both.ensures ∙ ap₂ (λ j t. reduced_both s.kept s.kept j s.places.now t) c.row_of-place.ensures (started)
+    c.reduce_both.ensures ∙ ap₂ (λ j t. reduced_both s.kept s.kept j s.places.now t) c.row_of-place.ensures started
 
 pub keep-requires : goal.keep-requires
 keep-requires c =

@@ -26,7 +26,7 @@ copies c =
 copied : (c : After-copy_columns) → (let t = unpacked c.args.ws.now in unpacked c.copy_columns.new.ws ≡ set t c.args.kept (row_of t (512 + c.args.a.0))) →
     Pivots c.args.pivots.now (unpacked c.copy_columns.new.ws) c.args.kept
 copied c copies =
-    pivots_set c.args.pivots.now (unpacked c.args.ws.now) c.args.kept c.args.kept _ (unpacked c.copy_columns.new.ws) (copies) (le_refl _) c.requires.5
+    pivots_set c.args.pivots.now (unpacked c.args.ws.now) c.args.kept c.args.kept _ (unpacked c.copy_columns.new.ws) copies (le_refl _) c.requires.5
 
 pub reduce_tallied-requires : goal.reduce_tallied-requires
 reduce_tallied-requires c =

@@ -9,7 +9,7 @@ use Rattle.gf2.specs.Cut.{cut}
 use Rattle.gf2.specs.Steps.{row_of}
 use Rattle.packed.specs.Packed.{unpacked, words}
 use Rattle.packed.proofs.Cuts.{length_cuts, get_or_cuts, unpack_cuts}
-use Rattle.packed.proofs.Rows.{length_words, get_d_words, row_at, paste_old, paste_turn, paste_done}
+use Rattle.packed.proofs.Rows.{length_words, get_or_words, row_at, paste_old, paste_turn, paste_done}
 use Rattle.packed.proofs.row.copy_columns.Invariants.{copied}
 use Rattle.packed.proofs.row.copy_columns.Goals as goal
 
@@ -25,7 +25,7 @@ module _ (d : List ℕ) (to from columns : ℕ) (l : length d ≡ 8192) (ht : to
       let s : k < length (copied d from columns) = rw eight h in
       let t : k < length (words d from) = rw (length_words d from (omega arith)) h in
       let y : x ≡ get_or (copied d from columns) k 0 =
-      f ∙ ap (λ w. w % 2 ^ (columns - k * 64)) (paste_old d to from (copied d from columns) ws k l ht eight e h ∙ sym (get_d_words d from k h))
+      f ∙ ap (λ w. w % 2 ^ (columns - k * 64)) (paste_old d to from (copied d from columns) ws k l ht eight e h ∙ sym (get_or_words d from k h))
       ∙ sym (get_or_cuts columns (words d from) k t) in
       paste_turn d (to * 8) (copied d from columns) ws k x e y (omega arith) s
 

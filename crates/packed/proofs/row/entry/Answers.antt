@@ -8,7 +8,7 @@ use Rattle.gf2.specs.Vector.{Row, entry}
 use Rattle.gf2.specs.Steps.{row_of}
 use Rattle.packed.specs.Packed.{odd, unpack, unpacked, words}
 use Rattle.packed.proofs.Words.{entry_unpack}
-use Rattle.packed.proofs.Rows.{row_at, get_d_words}
+use Rattle.packed.proofs.Rows.{row_at, get_or_words}
 use Rattle.packed.proofs.row.entry.Goals as goal
 
 -- the bit that is read is the column's entry
@@ -18,7 +18,7 @@ bit_is ws row c h k =
     sym (ap (λ (v : Row). entry v c) (row_at 1024 ws row h)
     ∙ ap (entry (unpack (words ws row))) e
     ∙ entry_unpack (words ws row) (c / 64) (c % 64) (omega arith)
-    ∙ ap (λ (x : ℕ). odd (x / 2 ^ (c % 64))) (get_d_words ws row (c / 64) (omega arith)))
+    ∙ ap (λ (x : ℕ). odd (x / 2 ^ (c % 64))) (get_or_words ws row (c / 64) (omega arith)))
 
 pub returns : goal.returns
 returns c = bit_is c.args.ws.now c.args.row c.args.c (search rules) (search rules)

@@ -9,7 +9,7 @@ use Rattle.gf2.specs.Vector.{Row}
 use Rattle.gf2.specs.Steps.{row_of}
 use Rattle.packed.specs.Packed.{unpack, unpacked, words}
 use Rattle.packed.proofs.Words.{unpack_or, shifted}
-use Rattle.packed.proofs.Rows.{length_words, get_d_words, row_at, rows_set}
+use Rattle.packed.proofs.Rows.{length_words, get_or_words, row_at, rows_set}
 use Rattle.packed.proofs.row.set_entry.Goals as goal
 
 -- the bit that is put in is the column's entry
@@ -24,7 +24,7 @@ one_in ws row c l h k =
     let one : 1 * 2 ^ (c % 64) % 2 ^ 64 ≡ 2 ^ (c % 64) = shifted (c % 64) m in
     ap (λ (x : ℕ). unpacked (set ws (row * 8 + c / 64) (bit_or (get_or ws (row * 8 + c / 64) 0) x))) one
     ∙ rows_set 1024 ws row (c / 64) (bit_or (get_or ws (row * 8 + c / 64) 0) (2 ^ (c % 64))) h q
-    ∙ ap (λ (x : ℕ). set (unpacked ws) row (unpack (set u (c / 64) (bit_or x (2 ^ (c % 64)))))) (sym (get_d_words ws row (c / 64) q))
+    ∙ ap (λ (x : ℕ). set (unpacked ws) row (unpack (set u (c / 64) (bit_or x (2 ^ (c % 64)))))) (sym (get_or_words ws row (c / 64) q))
     ∙ ap (set (unpacked ws) row) (unpack_or u (c / 64) (c % 64) n m ∙ ap₂ (λ (v : Row) (i : ℕ). set v i true) (sym (row_at 1024 ws row h)) e)
 
 pub returns : goal.returns

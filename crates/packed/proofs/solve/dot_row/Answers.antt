@@ -13,7 +13,7 @@ use Rattle.gf2.specs.Vector.{dot}
 use Rattle.gf2.proofs.Bits.{xor_false, false_xor, xor_assoc}
 use Rattle.packed.specs.Packed.{odd, unpack, words}
 use Rattle.packed.proofs.Parity.{odd_add, dot_words}
-use Rattle.packed.proofs.Rows.{get_d_words, length_words, row_at}
+use Rattle.packed.proofs.Rows.{get_or_words, length_words, row_at}
 use Rattle.packed.proofs.solve.dot_row.Goals as goal
 use Rattle.packed.proofs.solve.dot_row.Goals.{In-loop-k}
 
@@ -53,7 +53,7 @@ loop-k-preserved c =
     let k = c.loop-k.k in
     let u = words c.args.ws.now c.args.row in
     let eight : length u ≡ 8 = length_words c.args.ws.now c.args.row (omega arith) in
-    let same : get_or u k 0 ≡ get_or c.args.ws.now (c.args.row * 8 + k) 0 = get_d_words c.args.ws.now c.args.row k (omega arith) in
+    let same : get_or u k 0 ≡ get_or c.args.ws.now (c.args.row * 8 + k) 0 = get_or_words c.args.ws.now c.args.row k (omega arith) in
     (omega arith, omega (arith, ones-le 64 (both (goal.at.loop-k-preserved c).In-loop-k) (small (goal.at.loop-k-preserved c).In-loop-k)), c.loop-k.invariant.2 ∙ turn c.args.x.now u k c.loop-k.count _ same (omega arith) (omega arith) (small (goal.at.loop-k-preserved c).In-loop-k))
 
 pub returns : goal.returns

@@ -26,7 +26,7 @@ filter c = (judge_accepted graded c.args.n c.args.set.now c.args.table.now (judg
 
 -- the number of taps
 small : (c : Start) → (Filter c.args.n c.args.set.now c.args.table.now) → c.args.n ≤ 9
-small c filter = few_taps _ _ _ (filter)
+small c filter = few_taps _ _ _ filter
 
 -- what Judge found is the judgement
 judgement : (c : In-Judged) → let v = c.in-Judged.found in
