@@ -55,10 +55,6 @@ answers {o} {ws} {ws'} {w} {w'} {m} {m'} {ns} {ns'} h says fits = record {
     is : (j : Judgement) → o ≡ accepted j → ns' ≡ report_of j
     is j a = report ∙ ap (λ y. left_by y ns report_of) a
 
-pub returns-then-report-ne-REPORT : goal.returns-then-report-ne-REPORT
-returns-then-report-ne-REPORT c =
-    rw (ne_eqb (length c.args.report.now) 36 (λ e. omega (arith, c.if-report-ne-REPORT.true))) (refuses c.number.ensures)
-
 pub write_report-requires : goal.write_report-requires
 write_report-requires c =
     (omega (arith, c.if-report-ne-REPORT.false), reportable c.judge-answer.ensures (accepted_fits _ _ _ _ _ _ _ _))
@@ -66,3 +62,7 @@ write_report-requires c =
 pub returns : goal.returns
 returns c =
     rw (eq-eqb _ _ c.if-report-ne-REPORT.false) (answers c.judge-answer.ensures c.write_report.ensures (accepted_fits _ _ _ _ _ _ _ _))
+
+pub returns-then-report-ne-REPORT : goal.returns-then-report-ne-REPORT
+returns-then-report-ne-REPORT c =
+    rw (ne_eqb (length c.args.report.now) 36 (λ e. omega (arith, c.if-report-ne-REPORT.true))) (refuses c.number.ensures)
