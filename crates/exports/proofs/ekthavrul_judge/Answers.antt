@@ -61,7 +61,8 @@ write_report-requires c =
 
 pub returns : goal.returns
 returns c =
-    rw (eq-eqb _ _ c.if-report-ne-REPORT.false) (answers c.judge-answer.ensures c.write_report.ensures (accepted_fits _ _ _ _ _ _ _ _))
+    let long : length c.args.report.now ≡ 36 = omega arith in
+    rw (eq-eqb _ _ long) (answers c.judge-answer.ensures c.write_report.ensures (accepted_fits _ _ _ _ _ _ _ _))
 
 pub returns-then-report-ne-REPORT : goal.returns-then-report-ne-REPORT
 returns-then-report-ne-REPORT c =
