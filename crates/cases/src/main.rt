@@ -23,13 +23,25 @@ fn print_case(
     io::writer(rt).write_all(&text[..length])
 }
 
+// What an error says, without its number.
+fn reason(said: &str) -> &str {
+    match said.split_once(" (os error ") {
+        Some((text, _)) => text,
+        None => said,
+    }
+}
+
 // Every case, in the order of the arguments. A file that can't be opened is named on standard error with the reason, and
 // the cases behind it follow.
 fn main(rt: HostRuntime) -> io::Result<()> {
     for name in env::args(&rt)?.skip(1) {
         match File::open(&rt, &name) {
             Ok(input) => print_case(&rt, name.as_str(), input)?,
-            Err(e) => eprintln!(rt; "{name}: {e}")?,
+            Err(e) => {
+                let said = format!(in rt.alloc(); "{e}")?;
+                let why = reason(said.as_str());
+                eprintln!(rt; "{name}: {why}")?;
+            }
         }
     }
     Ok(())

@@ -11,7 +11,6 @@ pub enum Verdict {
 }
 
 // One check more: `why` where it is broken and no check before it is.
-#[tactic(auto, unfolding(crate::specs::Verdict::also_of))]
 pub fn also(v: Verdict, holds: bool, why: Refusal) -> Verdict
     ensures { result ≡ also_of v holds why }
 {

@@ -143,7 +143,7 @@ fn small_repository(name: &str, text: &str) -> Folder {
 }
 
 // So many seconds may a run take that proves and builds: other proofs may run beside it.
-const BUILD_LIMIT: &str = "600";
+const BUILD_LIMIT: &str = "180";
 
 // What the copy of the script answers, with this search path.
 fn built_answer(folder: &Folder, path: &str) -> Answer {
