@@ -8,11 +8,17 @@
 --   select_no       it does not
 --   select_count    a test keeps as many of the numbers below a bound as pass it
 --   value_at        a list of values for the numbers below m holds the value of each at its place
+--   values_told     and a list of m members that does is that list
 --   marked_from b i  the numbers from i on that the mask b marks: what a scan has yet to pass
 --   marked_all      from 0 on they are all
 --   marked_here     a marked number is the first of them
 --   marked_later    one that is not marked is passed over
 --   marked_none     at the end there is none
+--   select_above    those that pass a test among the numbers above one
+--   marked_cons     one byte before those of a mask
+--   marked_count    as many numbers are marked as bytes are 1
+--   marked_few      no more than there are bytes
+--   marked_any      none is marked just if no byte is 1
 --   member_points   the points of a mask are those that it marks
 --   byte_small      each byte of a well formed mask is 0 or 1
 --   byte_zero       and from N on each is 0
@@ -29,7 +35,7 @@
 --   lists_marked    a number is listed among the points of a mask just if the mask marks it
 use mathlib.Core.Path.{◌≡◌, refl, sym, ap, ◌∙◌}
 use mathlib.Core.Logic.{◌↔◌, ◌⊎◌, inl, inr, ⊎_elim}
-use mathlib.Core.Bool.{Bool, true, false, false≢true}
+use mathlib.Core.Bool.{Bool, true, false, ◌||◌, cond, not, false≢true}
 use mathlib.Core.List.{List, [], ◌∷◌, ◌++◌, map, append-nil, Memᴰ}
 use Prim.Native.Nat.{ℕ, zero, suc, ◌+◌, ◌-◌, ◌≤◌, ◌<◌}
 use native.Mathlib.Omega.{arith}
@@ -37,8 +43,13 @@ use native.Mathlib.Decide.{dec_lt}
 use native.Mathlib.Nat.{zero-add}
 use native.Mathlib.Numerals.{add-one}
 use lib.Dec.{eqb, leb}
-use lib.ListN.{length, get_or, length-append, get_or-eq_default}
+use lib.ListN.{length, get_or, length-append, length-map, get_or-eq_default}
+use lib.Seq.{ext_get_or}
 use borrow.Author.Tests.{eqb-true, leb-true, eq-eqb, ne_eqb, le-leb}
+use Rattle.std.specs.List.{count_by, list_any}
+use Rattle.std.proofs.lemmas.List.{length-map}
+use Rattle.std.proofs.lemmas.List.Recursion.{is_count_by}
+use Rattle.std.proofs.lemmas.List.Sums.{count_by-le-length}
 use Rattle.cube.specs.NumberLists.{up_from, below, cons_if, select, lists, is_empty, Inside}
 use Rattle.cube.specs.Cube.{size}
 use Rattle.cube.specs.Mask.{bits_then_zeros, well_formed, WellFormed, member, marked, points, HasPoint, byte, mask}
@@ -123,6 +134,13 @@ values_from f u (suc k) (suc i) d l = let e : suc u + i ≡ u + suc i = omega ar
 pub value_at : {B : Type 0} (f : ℕ → B) (m i : ℕ) (d : B) → i < m → get_or (map f (below m)) i d ≡ f i
 value_at f m i d l = values_from f 0 m i d l ∙ ap f (zero-add i)
 
+-- a list of m members that does is that list
+pub values_told : {B : Type 0} (f : ℕ → B) (m : ℕ) (d : B) (xs : List B) → length xs ≡ m → ((i : ℕ) → i < m → get_or xs i d ≡ f i) → xs ≡ map f (below m)
+values_told f m d xs long told =
+    ext_get_or d xs (map f (below m)) (long ∙ sym (length-map (below m) f ∙ length_from 0 m)) (λ i h.
+    let l : i < m = omega (arith, long) in
+    told i l ∙ sym (value_at f m i d l))
+
 -- the numbers from i on that a mask marks
 abbrev pub marked_from : List ℕ → ℕ → List ℕ
 marked_from b i = select (member b) (up_from i (length b - i))
@@ -150,6 +168,45 @@ module _ (b : List ℕ) (i : ℕ) where
   pub marked_none : length b ≤ i → marked_from b i ≡ []
   unfolding up_from select
   marked_none l = let z : length b - i ≡ 0 = omega arith in rw z
+
+-- those that pass among the numbers above a bound are those that pass one step lower, each one more
+select_above : (t : ℕ → Bool) (u k : ℕ) → select t (up_from (suc u) k) ≡ map suc (select (λ v. t (suc v)) (up_from u k))
+unfolding up_from select cons_if
+select_above t u zero = refl
+select_above t u (suc k) = rw (select_above t (suc u) k) (go (t (suc u)) (select (λ v. t (suc v)) (up_from (suc u) k)))
+  where
+    go : (b : Bool) (vs : List ℕ) → cons_if b (suc u) (map suc vs) ≡ map suc (cons_if b u vs)
+    go true vs = refl
+    go false vs = refl
+
+-- one byte before others
+marked_cons : (x : ℕ) (b : List ℕ) → marked (x ∷ b) ≡ cons_if (eqb x 1) 0 (map suc (marked b))
+unfolding up_from select
+marked_cons x b = ap (cons_if (eqb x 1) 0) (select_above (member (x ∷ b)) 0 (length b))
+
+-- as many numbers are marked as bytes are 1
+pub marked_count : (b : List ℕ) → length (marked b) ≡ count_by (λ x. eqb x 1) b
+unfolding up_from select cons_if
+marked_count b = is_count_by (λ c. length (marked c)) (λ x. eqb x 1) refl (λ x c. rw (marked_cons x c) (go (eqb x 1) (marked c))) b
+  where
+    go : (t : Bool) (us : List ℕ) → length (cons_if t 0 (map suc us)) ≡ cond t (1 + length us) (length us)
+    go true us = omega (arith, length-map us suc)
+    go false us = length-map us suc
+
+-- no more than there are bytes
+pub marked_few : (b : List ℕ) → length (marked b) ≤ length b
+marked_few b = omega (arith, marked_count b, count_by-le-length (λ x. eqb x 1) b)
+
+-- none is marked just if no byte is 1
+pub marked_any : (b : List ℕ) → is_empty (marked b) ≡ not (list_any (λ x. eqb x 1) b)
+unfolding up_from select cons_if is_empty
+marked_any [] = refl
+marked_any (x ∷ b) = rw (marked_cons x b) (go (list_any (λ y. eqb y 1) b) (eqb x 1) (marked b) (marked_any b))
+  where
+    go : (q t : Bool) (us : List ℕ) → is_empty us ≡ not q → is_empty (cons_if t 0 (map suc us)) ≡ not (t || q)
+    go q true us e = refl
+    go q false [] e = e
+    go q false (u ∷ us) e = e
 
 -- the points of a mask are those that it marks
 pub member_points : (b : List ℕ) (a : ℕ) → Memᴰ a (points b) ↔ (member b a ≡ true)

@@ -13,11 +13,11 @@ pub const TAPS_MAX: usize = 9;
 pub const POINTS: usize = 512;
 
 // A point of the cube.
-#[derive(Clone, Copy)]
+#[derive(Clone, Copy, Debug, PartialEq, Eq, PartialOrd, Ord)]
 pub struct Point(pub u16);
 
 // The ones of an exponent name the variables of one monomial.
-#[derive(Clone, Copy)]
+#[derive(Clone, Copy, Debug, PartialEq, Eq, PartialOrd, Ord)]
 pub struct Exponent(pub u16);
 
 // Whether `n` is a number of taps.
@@ -48,7 +48,8 @@ pub fn within(u: Exponent, a: Point) -> bool
 }
 
 // The number of ones of the exponent `u`, its population count: the ones of each pair of bits are counted, then those of
-// each nibble; then the counts of the two bytes are added, nibble by nibble, and then the two sums.
+// each nibble; then the counts of the two bytes are added, nibble by nibble, and then the two sums. `count_ones` answers 32
+// bits, and no number inside is to be wider than 16: docs/DECISIONS.md, 'A weight is counted in pairs'.
 pub fn weight(u: Exponent) -> u16
     ensures { result ≡ weight_of u.0 }
 {

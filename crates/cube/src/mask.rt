@@ -3,21 +3,16 @@ ghost use Rattle.std.specs.Prelude.{◌≡◌, ◌≤◌, length};
 ghost use Rattle.cube.specs.NumberLists.{is_empty, largest as largest_of};
 ghost use Rattle.cube.specs.Mask.{well_formed, marked};
 
-use crate::size;
+use crate::{POINTS, size};
 
-// The largest byte, 0 where there is none. Without an early return the loop is compiled to wide instructions.
+// A set, a table or coefficients, byte by byte.
+pub type Mask = [u8; POINTS];
+
+// The largest byte, 0 where there is none. Without an early return the fold is compiled to wide instructions.
 fn largest(bytes: &[u8]) -> u8
     ensures { result ≡ largest_of (λ x. x) bytes.now }
 {
-    let mut most: u8 = 0;
-    let mut i: usize = 0;
-    while i < bytes.len() {
-        if bytes[i] > most {
-            most = bytes[i];
-        }
-        i += 1;
-    }
-    most
+    bytes.iter().fold(0, |most, &x| most.max(x))
 }
 
 // Whether each byte is 0 or 1 for a point of `n` taps, and 0 from there on; for any `n`, so that it can be asked before
@@ -25,41 +20,27 @@ fn largest(bytes: &[u8]) -> u8
 pub fn well_formed(mask: &[u8], n: usize) -> bool
     ensures { result ≡ well_formed n mask.now }
 {
-    let points = size(n);
-    if mask.len() <= points {
-        return largest(mask) <= 1;
-    }
-    if largest(&mask[..points]) > 1 {
-        return false;
-    }
-    largest(&mask[points..]) == 0
+    let (inside, past) = mask.split_at(size(n).min(mask.len()));
+    let bits = largest(inside) <= 1;
+    let zeros = largest(past) == 0;
+    bits && zeros
 }
 
 // Whether the mask marks nothing.
+#[tactic(auto, using(crate::proofs::Masks::marked_any))]
 pub fn is_empty(mask: &[u8]) -> bool
     ensures { result ≡ is_empty (marked mask.now) }
 {
-    let mut i: usize = 0;
-    while i < mask.len() {
-        if mask[i] == 1 {
-            return false;
-        }
-        i += 1;
-    }
-    true
+    !mask.contains(&1)
 }
 
-// How many numbers the mask marks.
+// How many numbers the mask marks. A byte adds its bit, and no branch is taken: the loop is compiled to wide instructions.
 pub fn count(mask: &[u8]) -> usize
     ensures { (result ≡ length (marked mask.now)) × (result ≤ length mask.now) }
 {
-    let mut number: usize = 0;
-    let mut i: usize = 0;
-    while i < mask.len() {
-        if mask[i] == 1 {
-            number += 1;
-        }
-        i += 1;
+    let mut number = 0;
+    for &byte in mask {
+        number += usize::from(byte == 1);
     }
     number
 }

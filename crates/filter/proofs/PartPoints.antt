@@ -10,13 +10,12 @@ use Prim.Native.Nat.{ℕ, zero, suc, ◌+◌, ◌≤◌, ◌<◌}
 use native.Mathlib.Omega.{arith}
 use lib.Dec.{eqb}
 use lib.ListN.{length, get_or}
-use lib.Seq.{ext_get_or}
 use Rattle.cube.specs.NumberLists.{below, select, Inside}
 use Rattle.cube.specs.Cube.{size}
-use Rattle.cube.specs.Mask.{well_formed, member, points, byte, mask}
+use Rattle.cube.specs.Mask.{well_formed, member, points, byte}
 use Rattle.cube.proofs.Listed.{and_both, member_select, select_select, length_split}
-use Rattle.cube.proofs.Masks.{value_at, byte_small}
-use Rattle.cube.proofs.MaskOf.{length_mask, select_same, points_mask}
+use Rattle.cube.proofs.Masks.{values_told, byte_small}
+use Rattle.cube.proofs.MaskOf.{select_same, points_mask}
 use Rattle.filter.specs.Part.{part}
 
 -- they are points of n taps where those of the set are
@@ -48,6 +47,5 @@ pub part_points : (side : ℕ) (s f m : List ℕ) → length s ≡ 512 → lengt
     → points m ≡ part side s f
 part_points side s f m l k h =
     let t : ℕ → Bool = part_test side s f in
-    let same : m ≡ mask t = ext_get_or 0 m (mask t) (k ∙ sym (length_mask t)) (λ a i. h a (omega arith) ∙ sym (value_at (λ v. byte (t v)) 512 a 0 (omega arith))) in
-    ap points same ∙ points_mask t ∙ select_both (member s) (λ a. eqb (get_or f a 0) side) (below 512)
+    ap points (values_told (λ a. byte (t a)) 512 0 m k h) ∙ points_mask t ∙ select_both (member s) (λ a. eqb (get_or f a 0) side) (below 512)
     ∙ ap (λ j. select (λ a. eqb (get_or f a 0) side) (select (member s) (below j))) (sym l)

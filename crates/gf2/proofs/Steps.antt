@@ -2,7 +2,6 @@
 --   reduce_next    a row is reduced by one row more
 --   reduces_none   by no rows: nothing changes
 --   reduced_row    what is left of the row
---   other_row      the other rows are as they were
 --   reduces_next   by one row more
 --   pivot_zero     a row whose pivot is past its end is zero
 --   pivot_one      a row whose pivot is before its end is not
@@ -11,7 +10,7 @@
 --   pivots_more    one row more has its pivot stored
 --   kept_more      the first members of a list after one was stored behind them, which is kept or not
 --   keep_map       the images of a list with one more member, or none
-use mathlib.Core.Path.{◌≡◌, refl, sym, ap, ◌∙◌}
+use mathlib.Core.Path.{◌≡◌, refl, sym, ap, ap₂, ◌∙◌}
 use mathlib.Core.Bool.{Bool, true, false}
 use mathlib.Core.List.{List, [], ◌∷◌, ◌++◌, map, map-append}
 use Prim.Native.Nat.{ℕ, ◌+◌, ◌≤◌, ◌<◌}
@@ -43,18 +42,18 @@ module _ (t : List Row) (row : ℕ) where
     reduced_row = ap (λ s. row_of s row) r.rows ∙ get_or-set_same t row _ [] l
 
     -- the other rows are as they were
-    pub other_row : (j : ℕ) → (j ≡ row → ⊥) → row_of t' j ≡ row_of t j
+    other_row : (j : ℕ) → (j ≡ row → ⊥) → row_of t' j ≡ row_of t j
     other_row j h = ap (λ s. row_of s j) r.rows ∙ get_or-set_other t row j _ [] h
 
     -- by one row more
     pub reduces_next : (b : Bool) (t'' : List Row) → k < row → b ≡ entry (row_of t' row) (pivot (row_of t k))
-        → t'' ≡ set t' row (add_if b (row_of t' row) (row_of t k)) → Reduces (k + 1) row t t'' (n + count (b ∷ []))
+        → t'' ≡ set t' row (add_if b (row_of t' row) (row_of t' k)) → Reduces (k + 1) row t t'' (n + count (b ∷ []))
     reduces_next b t'' h e f =
         let m : Reduced = reduce (take k t) (row_of t row) in
         let next : reduce (take (k + 1) t) (row_of t row) ≡ record { left = add_if b m.left (row_of t k); added = m.added ++ (b ∷ []) } =
         reduce_next t k (row_of t row) b (omega arith) (e ∙ ap (λ v. entry v (pivot (row_of t k))) reduced_row) in
         record {
-          rows = rw next (f ∙ ap (λ v. set t' row (add_if b v (row_of t k))) reduced_row ∙ ap (λ s. set s row (add_if b m.left (row_of t k))) r.rows ∙ set-set t row _ _);
+          rows = rw next (f ∙ ap₂ (λ v w. set t' row (add_if b v w)) reduced_row (other_row k (λ z. omega arith)) ∙ ap (λ s. set s row (add_if b m.left (row_of t k))) r.rows ∙ set-set t row _ _);
           additions = rw (next, count_append m.added (b ∷ []), r.additions);
         }
 

@@ -4,10 +4,18 @@
 
 ghost use Rattle.std.specs.Prelude.{◌≡◌, ◌<◌, length, get_or};
 ghost use Rattle.order.specs.BuiltIn.{graded};
+ghost use Rattle.order.specs.Order.{Graded};
 
 use cube::Exponent;
 
 pub mod columns; // columns.rt: the columns of a degree
+
+// An order of the exponents: it lists each of the 512 once, and weights never fall along it.
+#[derive(Clone, Copy)]
+pub struct Order {
+    pub list: [u16; 512],
+    ghost graded: { Graded list },
+}
 
 const ORDER: [u16; 512] = [
     0, 1, 2, 4, 8, 16, 32, 64, 128, 256, 3, 5, 6, 9, 10, 12, 17, 18, 20, 24, 33, 34, 36, 40, 48,
@@ -39,14 +47,13 @@ const ORDER: [u16; 512] = [
 ];
 
 // The whole table: a loop takes it once, since each use of a constant makes it anew.
-pub fn graded_order() -> [u16; 512]
-    ensures { result ≡ graded }
+pub fn graded_order() -> Order
+    ensures { result.list ≡ graded }
 {
-    ORDER
+    Order { list: ORDER }
 }
 
-// The exponent at place `i` of an order, or of another list of exponents: an order is read through here only. A kernel
-// for the crates above.
+// The exponent at place `i` of an order, or of another list of exponents. A kernel for the crates above.
 pub fn exponent_at(order: &[u16], i: usize) -> Exponent
     requires { i < length order.now }
     ensures { result.0 ≡ get_or order.now i 0 }

@@ -1,52 +1,28 @@
 -- Operations on numbers that work bit by bit, as operations on rows.
 --   length_bits      n bits are a row of n columns
---   pairs op u v     the numbers of two lists, joined one by one
---   length_pairs     there are as many as before
---   get_or_pairs       each is joined from the numbers at its place
 --   Bitwise op b f   op joins the bits of two numbers by b, and f the entries of two rows
 --   xor_bitwise      exclusive or is the sum of rows
 --   and_bitwise      conjunction is the common ones of rows
---   unpack_pairs     where the numbers of two rows are joined, the rows are
+--   first_joined     the first of the numbers of two rows are joined
+--   columns_joined   where each number of a row joins the numbers of two rows at its place, the row joins the rows
 use mathlib.Core.Path.{◌≡◌, refl, sym, ap, ap₂, ◌∙◌}
 use mathlib.Core.Bool.{Bool, xor, ◌&&◌}
-use mathlib.Core.List.{List, [], ◌∷◌, ◌++◌}
+use mathlib.Core.List.{[], ◌∷◌, ◌++◌}
 use Prim.Native.Nat.{ℕ, zero, suc, ◌/◌, ◌%◌, ◌<◌}
 use native.Mathlib.Nat.{mod-lt, zero-lt-suc}
 use native.Mathlib.Omega.{arith}
 use lib.Bits.{bit_xor, bit_and, xor_mod, xor_shr, and_mod, and_shr}
 use lib.Dec.{eqb}
-use lib.ListN.{length, get_or}
+use lib.ListN.{length}
 use Rattle.gf2.specs.Vector.{Row, add}
 use Rattle.gf2.specs.Cut.{common}
-use Rattle.packed.specs.Packed.{bits_of, unpack}
+use Rattle.packed.specs.Packed.{bits_of, columns}
 
 -- n bits are a row of n columns
 pub length_bits : (n a : ℕ) → length (bits_of n a) ≡ n
 unfolding bits_of
 length_bits zero a = refl
 length_bits (suc n) a = ap suc (length_bits n (a / 2))
-
--- the numbers of two lists, joined one by one
-unfoldable pub pairs : (ℕ → ℕ → ℕ) → List ℕ → List ℕ → List ℕ
-pairs op [] v = []
-pairs op (x ∷ u) [] = []
-pairs op (x ∷ u) (y ∷ v) = op x y ∷ pairs op u v
-
--- there are as many as before
-pub length_pairs : (op : ℕ → ℕ → ℕ) (u v : List ℕ) → length u ≡ length v → length (pairs op u v) ≡ length u
-unfolding pairs
-length_pairs op [] v e = refl
-length_pairs op (x ∷ u) [] e = absurd (omega arith)
-length_pairs op (x ∷ u) (y ∷ v) e = ap suc (length_pairs op u v (omega arith))
-
--- each is joined from the numbers at its place
-pub get_or_pairs : (op : ℕ → ℕ → ℕ) (u v : List ℕ) (k : ℕ) → length u ≡ length v → k < length u
-    → get_or (pairs op u v) k 0 ≡ op (get_or u k 0) (get_or v k 0)
-unfolding pairs
-get_or_pairs op [] v k e h = absurd (omega arith)
-get_or_pairs op (x ∷ u) [] k e h = absurd (omega arith)
-get_or_pairs op (x ∷ u) (y ∷ v) zero e h = refl
-get_or_pairs op (x ∷ u) (y ∷ v) (suc k) e h = get_or_pairs op u v k (omega arith) (omega arith)
 
 -- op joins the bits of two numbers by b, and f the entries of two rows
 pub record Bitwise (op : ℕ → ℕ → ℕ) (b : Bool → Bool → Bool) (f : Row → Row → Row) : Type 0 where
@@ -117,12 +93,16 @@ module _ {op : ℕ → ℕ → ℕ} {b : Bool → Bool → Bool} {f : Row → Ro
       bitwise.next x y (v ++ v') (w ++ w') ∙ ap (λ u. b x y ∷ u) (op_append v w v' w' (omega arith))
       ∙ sym (ap (λ u. u ++ f v' w') (bitwise.next x y v w))
 
-  -- where the numbers of two rows are joined, the rows are
-  pub unpack_pairs : (u v : List ℕ) → length u ≡ length v → unpack (pairs op u v) ≡ f (unpack u) (unpack v)
-  unfolding unpack pairs
-  unpack_pairs [] [] e = sym bitwise.none
-  unpack_pairs [] (y ∷ v) e = absurd (omega arith)
-  unpack_pairs (x ∷ u) [] e = absurd (omega arith)
-  unpack_pairs (x ∷ u) (y ∷ v) e =
-      ap₂ {C = Row} (λ p q. p ++ q) (bits_op 64 x y) (unpack_pairs u v (omega arith))
-      ∙ sym (op_append (bits_of 64 x) (bits_of 64 y) (unpack u) (unpack v) (length_bits 64 x ∙ sym (length_bits 64 y)))
+  -- the first of the numbers of two rows are joined
+  pub first_joined : (x y : ℕ) (v w : Row) → f (bits_of 64 x ++ v) (bits_of 64 y ++ w) ≡ bits_of 64 (op x y) ++ f v w
+  first_joined x y v w =
+      op_append (bits_of 64 x) (bits_of 64 y) v w (length_bits 64 x ∙ sym (length_bits 64 y)) ∙ ap (λ z. z ++ f v w) (sym (bits_op 64 x y))
+
+  -- where each number of a row joins the numbers of two rows at its place, the row joins the rows
+  pub columns_joined : (n : ℕ) (u v w : ℕ → ℕ) → ((k : ℕ) → k < n → w k ≡ op (u k) (v k))
+      → columns n w ≡ f (columns n u) (columns n v)
+  unfolding columns
+  columns_joined zero u v w e = sym bitwise.none
+  columns_joined (suc n) u v w e =
+      ap₂ {C = Row} (λ p q. p ++ q) (ap (bits_of 64) (e 0 (omega arith))) (columns_joined n (λ k. u (suc k)) (λ k. v (suc k)) (λ k. w (suc k)) (λ k h. e (suc k) (omega arith)))
+      ∙ sym (first_joined (u 0) (v 0) (columns n (λ k. u (suc k))) (columns n (λ k. v (suc k))))

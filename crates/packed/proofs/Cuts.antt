@@ -1,21 +1,18 @@
 -- Rows with zeros from a column on, number by number.
---   cuts c u      the numbers u with zeros from column c of their row on
---   length_cuts   there are as many as before
---   get_or_cuts     each keeps its lowest bits
---   unpack_cuts   they hold the row with zeros from column c on
+--   columns_cut   where each number of a row keeps its lowest bits, the row has zeros from column c on
 use mathlib.Core.Path.{◌≡◌, refl, sym, ap, ap₂, ◌∙◌}
 use mathlib.Core.Bool.{false}
-use mathlib.Core.List.{List, [], ◌∷◌, ◌++◌}
+use mathlib.Core.List.{[], ◌∷◌, ◌++◌}
 use Prim.Native.Nat.{ℕ, zero, suc, ◌-◌, ◌*◌, ◌/◌, ◌%◌, ◌^◌, ◌<◌}
 use native.Mathlib.Nat.{mod-one}
 use native.Mathlib.Numerals.{add-one}
 use native.Mathlib.Omega.{arith}
 use lib.Dec.{eqb}
-use lib.ListN.{length, get_or, replicate}
+use lib.ListN.{length, replicate}
 use lib.Pow.{mod-mod-pow, field}
 use Rattle.gf2.specs.Vector.{Row}
 use Rattle.gf2.specs.Cut.{cut}
-use Rattle.packed.specs.Packed.{bits_of, unpack}
+use Rattle.packed.specs.Packed.{bits_of, columns}
 use Rattle.packed.proofs.Bitwise.{length_bits}
 use Rattle.packed.proofs.Words.{bits_zero}
 
@@ -46,30 +43,16 @@ bits_mod (suc n) a (suc c) =
     let high : a % 2 ^ suc c / 2 ≡ a / 2 % 2 ^ c = rw (add-one c) at (field a c 1) in
     ap₂ {C = Row} (λ x v. x ∷ v) (ap (λ x. eqb x 1) low) (ap (bits_of n) high ∙ bits_mod n (a / 2) c)
 
--- the numbers u with zeros from column c of their row on
-unfoldable pub cuts : ℕ → List ℕ → List ℕ
-cuts c [] = []
-cuts c (w ∷ u) = w % 2 ^ c ∷ cuts (c - 64) u
-
--- there are as many as before
-pub length_cuts : (c : ℕ) (u : List ℕ) → length (cuts c u) ≡ length u
-unfolding cuts
-length_cuts c [] = refl
-length_cuts c (w ∷ u) = ap suc (length_cuts (c - 64) u)
-
--- each keeps its lowest bits
-pub get_or_cuts : (c : ℕ) (u : List ℕ) (k : ℕ) → k < length u → get_or (cuts c u) k 0 ≡ get_or u k 0 % 2 ^ (c - k * 64)
-unfolding cuts
-get_or_cuts c [] k h = absurd (omega arith)
-get_or_cuts c (w ∷ u) zero h = let e : c ≡ c - 0 * 64 = omega arith in ap (λ n. w % 2 ^ n) e
-get_or_cuts c (w ∷ u) (suc k) h =
-    let e : c - 64 - k * 64 ≡ c - suc k * 64 = omega arith in
-    get_or_cuts (c - 64) u k (omega arith) ∙ ap (λ n. get_or u k 0 % 2 ^ n) e
-
--- they hold the row with zeros from column c on
-pub unpack_cuts : (c : ℕ) (u : List ℕ) → unpack (cuts c u) ≡ cut c (unpack u)
-unfolding unpack cuts cut
-unpack_cuts c [] = refl
-unpack_cuts c (w ∷ u) =
-    ap₂ {C = Row} (λ p q. p ++ q) (bits_mod 64 w c) (unpack_cuts (c - 64) u)
-    ∙ ap (λ n. cut c (bits_of 64 w) ++ cut (c - n) (unpack u)) (sym (length_bits 64 w)) ∙ sym (cut_append c (bits_of 64 w) (unpack u))
+-- where each number of a row keeps its lowest bits, the row has zeros from column c on
+pub columns_cut : (n c : ℕ) (u w : ℕ → ℕ) → ((k : ℕ) → k < n → w k ≡ u k % 2 ^ (c - k * 64))
+    → columns n w ≡ cut c (columns n u)
+unfolding columns cut
+columns_cut zero c u w e = refl
+columns_cut (suc n) c u w e =
+    let here : c - 0 * 64 ≡ c = omega arith in
+    let first : w 0 ≡ u 0 % 2 ^ c = e 0 (omega arith) ∙ ap (λ i. u 0 % 2 ^ i) here in
+    let next : (k : ℕ) → k < n → w (suc k) ≡ u (suc k) % 2 ^ (c - 64 - k * 64) =
+    λ k h. let i : c - suc k * 64 ≡ c - 64 - k * 64 = omega arith in e (suc k) (omega arith) ∙ ap (λ j. u (suc k) % 2 ^ j) i in
+    let rest : Row = columns n (λ k. u (suc k)) in
+    ap₂ {C = Row} (λ p q. p ++ q) (ap (bits_of 64) first ∙ bits_mod 64 (u 0) c) (columns_cut n (c - 64) (λ k. u (suc k)) (λ k. w (suc k)) next)
+    ∙ ap (λ i. cut c (bits_of 64 (u 0)) ++ cut (c - i) rest) (sym (length_bits 64 (u 0))) ∙ sym (cut_append c (bits_of 64 (u 0)) rest)

@@ -6,6 +6,6 @@ pub mod Clearing
 pub mod Cuts
 pub mod Packing
 pub mod Rows
-pub mod Joined
+pub mod Made
 pub mod Tally
 pub mod ZeroRows

@@ -2,7 +2,7 @@
 --   number_bound   a row of n columns makes a number of n bits
 --   bits_number    whose bits are the row
 --   number_bits    the bits of a number make it
---   row_word       64 columns of a row of the workspace make its number
+--   row_word       64 columns of a row make its number
 --   number_padded  zeros behind a row change no number
 --   length_pack    m numbers
 --   pack_at        number k of a row is made of 64 of its columns
@@ -18,10 +18,8 @@ use lib.ListN.{length, get_or, take, drop, length-drop, take-append-drop}
 use lib.Seq.{length-take-le, take-nil, drop-nil, take_at, drop-append-add, drop-drop}
 use Rattle.gf2.specs.Vector.{Row, digit}
 use Rattle.gf2.specs.Cut.{padded}
-use Rattle.gf2.specs.Steps.{row_of}
-use Rattle.packed.specs.Packed.{odd, bits_of, unpack, unpacked, number, pack, words}
+use Rattle.packed.specs.Packed.{odd, bits_of, columns, unpack, number, pack}
 use Rattle.packed.proofs.Bitwise.{length_bits}
-use Rattle.packed.proofs.Rows.{get_or_words, length_words, row_at}
 
 -- a row of n columns makes a number of n bits
 pub number_bound : (v : Row) → number v < 2 ^ length v
@@ -58,26 +56,23 @@ number_bits (suc n) a l =
     let later : number (bits_of n (a / 2)) ≡ a / 2 = number_bits n (a / 2) (omega (arith, pow-suc 2 n)) in
     ap (λ m. m * 2 + digit (odd a)) later ∙ two_digits a
 
--- 64 columns of the row in a list of numbers make a number
-word_columns : (u : List ℕ) (k : ℕ) → k < length u → get_or u k 0 < 2 ^ 64 → number (take 64 (drop (k * 64) (unpack u))) ≡ get_or u k 0
-unfolding unpack
-word_columns [] k h b = absurd (omega arith)
-word_columns (w ∷ u) zero h b =
-    ap number (take_at (bits_of 64 w) (unpack u) 64 (length_bits 64 w)) ∙ number_bits 64 w b
-word_columns (w ∷ u) (suc k) h b =
-    let e : suc k * 64 ≡ length (bits_of 64 w) + k * 64 = rw length_bits (omega arith) in
-    ap (λ n. number (take 64 (drop n (bits_of 64 w ++ unpack u)))) e
-    ∙ ap (λ v. number (take 64 v)) (drop-append-add (bits_of 64 w) (unpack u) (k * 64))
-    ∙ word_columns u k (omega arith) b
+-- 64 columns of n numbers make a number
+columns_word : (n : ℕ) (u : ℕ → ℕ) (k : ℕ) → k < n → u k < 2 ^ 64 → number (take 64 (drop (k * 64) (columns n u))) ≡ u k
+unfolding columns
+columns_word zero u k h b = absurd (omega arith)
+columns_word (suc n) u zero h b =
+    ap number (take_at (bits_of 64 (u 0)) (columns n (λ j. u (suc j))) 64 (length_bits 64 (u 0))) ∙ number_bits 64 (u 0) b
+columns_word (suc n) u (suc k) h b =
+    let e : suc k * 64 ≡ length (bits_of 64 (u 0)) + k * 64 = rw length_bits (omega arith) in
+    let rest : Row = columns n (λ j. u (suc j)) in
+    ap (λ i. number (take 64 (drop i (bits_of 64 (u 0) ++ rest)))) e
+    ∙ ap (λ v. number (take 64 v)) (drop-append-add (bits_of 64 (u 0)) rest (k * 64))
+    ∙ columns_word n (λ j. u (suc j)) k (omega arith) b
 
--- 64 columns of a row of the workspace make its number
-pub row_word : (ws : List ℕ) (j k : ℕ) → length ws ≡ 8192 → j < 1024 → k < 8 → get_or ws (j * 8 + k) 0 < 2 ^ 64
-    → number (take 64 (drop (k * 64) (row_of (unpacked ws) j))) ≡ get_or ws (j * 8 + k) 0
-row_word ws j k l h g b =
-    let same : get_or (words ws j) k 0 ≡ get_or ws (j * 8 + k) 0 = get_or_words ws j k g in
-    ap (λ v. number (take 64 (drop (k * 64) v))) (row_at 1024 ws j h)
-    ∙ word_columns (words ws j) k (rw (length_words ws j (omega arith)) g) (rw same b)
-    ∙ same
+-- 64 columns of a row make its number
+pub row_word : (u : List ℕ) (k : ℕ) → k < 8 → get_or u k 0 < 2 ^ 64
+    → number (take 64 (drop (k * 64) (unpack u))) ≡ get_or u k 0
+row_word u k = columns_word 8 (λ j. get_or u j 0) k
 
 -- zeros behind a row do not change the number of its first columns
 front_padded : (w m : ℕ) (v : Row) → w ≤ m → number (take w (padded m v)) ≡ number (take w v)
@@ -113,8 +108,8 @@ pack_at (suc m) v (suc k) h =
     pack_at m (drop 64 v) k (omega arith) ∙ ap (λ w. number (take 64 w)) (drop-drop (k * 64) 64 v ∙ ap (λ n. drop n v) e)
 
 -- the numbers of a row hold the row
-pub unpack_pack : (m : ℕ) (v : Row) → length v ≡ m * 64 → unpack (pack m v) ≡ v
-unfolding pack unpack
+pub unpack_pack : (m : ℕ) (v : Row) → length v ≡ m * 64 → columns m (λ k. get_or (pack m v) k 0) ≡ v
+unfolding pack columns
 unpack_pack zero [] l = refl
 unpack_pack zero (x ∷ v) l = absurd (omega arith)
 unpack_pack (suc m) v l =

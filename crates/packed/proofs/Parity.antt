@@ -1,28 +1,29 @@
 -- Parities and changed columns of packed rows, number by number.
---   odd_add       a sum is odd just if exactly one of its terms is
---   dot_bits      the parity of two numbers' bits is that of the count of their common ones
---   dot_words     the parity of rows that begin with two numbers
---   unpack_flip   a bit changed in a number is a column changed in the row
+--   dot_columns   the parity of two rows is that of the count of their numbers' common ones
+--   flip_column   a column of a row in two parts is changed in one of them
+--   flip_bits     a bit of a number is changed
 use mathlib.Core.Path.{◌≡◌, refl, sym, ap, ap₂, ◌∙◌}
 use mathlib.Core.Bool.{true, false, xor, ◌&&◌}
 use mathlib.Core.List.{List, [], ◌∷◌, ◌++◌}
-use Prim.Native.Nat.{ℕ, zero, suc, ◌+◌, ◌*◌, ◌/◌, ◌%◌, ◌^◌, ◌<◌}
+use Prim.Native.Nat.{ℕ, zero, suc, ◌+◌, ◌/◌, ◌%◌, ◌^◌, ◌<◌}
 use native.Mathlib.Nat.{mod-lt, zero-lt-suc, zero-add, suc-add, pow-suc, div-lt_iff_lt-mul, mul-mod_left, mul-div_cancel}
 use native.Mathlib.Omega.{arith}
-use lib.Bits.{bit_xor, bit_and, xor_zero_r}
+use lib.Bits.{bit_xor, bit_and, xor_zero_r, and_le_r}
 use lib.Count.{ones, ones_step}
 use lib.Dec.{eqb}
-use lib.ListN.{length, get_or, set}
+use lib.ListN.{length, get_or}
+use Rattle.std.proofs.lemmas.List.Sums.{sum_by-cons}
+use Rattle.std.specs.List.{sum_by, zip}
 use Rattle.gf2.specs.Vector.{Row, add, dot, unit}
 use Rattle.gf2.specs.Solve.{flip}
 use Rattle.gf2.proofs.Bits.{xor_false, false_xor, xor_self, xor_assoc}
 use Rattle.gf2.proofs.Dot.{add_nil}
-use Rattle.packed.specs.Packed.{odd, bits_of, unpack}
+use Rattle.packed.specs.Packed.{odd, bits_of, columns}
 use Rattle.packed.proofs.Bitwise.{length_bits, xor_bitwise, and_bitwise}
-use Rattle.packed.proofs.Words.{past_first}
+use Rattle.packed.proofs.Words.{Column}
 
 -- a sum is odd just if exactly one of its terms is
-pub odd_add : (a b : ℕ) → odd (a + b) ≡ xor (odd a) (odd b)
+odd_add : (a b : ℕ) → odd (a + b) ≡ xor (odd a) (odd b)
 odd_add a b = go (a % 2) (b % 2) refl refl
   where
     go : (x y : ℕ) → a % 2 ≡ x → b % 2 ≡ y → odd (a + b) ≡ xor (eqb x 1) (eqb y 1)
@@ -41,7 +42,7 @@ ones_none zero h = refl
 ones_none (suc a) h = absurd (omega arith)
 
 -- the parity of two numbers' bits is that of the count of their common ones
-pub dot_bits : (n x y : ℕ) → bit_and x y < 2 ^ n → dot (bits_of n x) (bits_of n y) ≡ odd (ones (bit_and x y))
+dot_bits : (n x y : ℕ) → bit_and x y < 2 ^ n → dot (bits_of n x) (bits_of n y) ≡ odd (ones (bit_and x y))
 unfolding dot bits_of
 dot_bits zero x y h = sym (ones_none (bit_and x y) h)
 dot_bits (suc n) x y h =
@@ -61,12 +62,20 @@ dot_append [] (y ∷ w) v' w' e = absurd (omega arith)
 dot_append (x ∷ v) [] v' w' e = absurd (omega arith)
 dot_append (x ∷ v) (y ∷ w) v' w' e = ap (xor (x && y)) (dot_append v w v' w' (omega arith)) ∙ sym (xor_assoc (x && y) (dot v w) (dot v' w'))
 
--- the parity of rows that begin with two numbers
-pub dot_words : (x y : ℕ) (u v : List ℕ) → bit_and x y < 2 ^ 64 → dot (unpack (x ∷ u)) (unpack (y ∷ v)) ≡ xor (odd (ones (bit_and x y))) (dot (unpack u) (unpack v))
-unfolding unpack
-dot_words x y u v h =
-    dot_append (bits_of 64 x) (bits_of 64 y) (unpack u) (unpack v) (length_bits 64 x ∙ sym (length_bits 64 y))
-    ∙ ap (λ b. xor b (dot (unpack u) (unpack v))) (dot_bits 64 x y h)
+-- the parity of two rows is that of the count of their numbers' common ones
+pub dot_columns : (n : ℕ) (u v : List ℕ) → length u ≡ n → length v ≡ n → ((k : ℕ) → get_or v k 0 < 2 ^ 64)
+    → odd (sum_by (λ p. ones (bit_and p.0 p.1)) (zip u v)) ≡ dot (columns n (λ k. get_or u k 0)) (columns n (λ k. get_or v k 0))
+unfolding columns dot
+dot_columns zero [] [] l m b = refl
+dot_columns zero [] (y ∷ v) l m b = absurd (omega arith)
+dot_columns zero (x ∷ u) v l m b = absurd (omega arith)
+dot_columns (suc n) [] v l m b = absurd (omega arith)
+dot_columns (suc n) (x ∷ u) [] l m b = absurd (omega arith)
+dot_columns (suc n) (x ∷ u) (y ∷ v) l m b =
+    ap odd (sum_by-cons (λ p. ones (bit_and p.0 p.1)) (x, y) (zip u v))
+    ∙ odd_add (ones (bit_and x y)) (sum_by (λ p. ones (bit_and p.0 p.1)) (zip u v))
+    ∙ ap₂ xor (sym (dot_bits 64 x y (omega (arith, b 0, and_le_r x y)))) (dot_columns n u v (omega arith) (omega arith) (λ k. b (suc k)))
+    ∙ sym (dot_append (bits_of 64 x) (bits_of 64 y) _ _ (length_bits 64 x ∙ sym (length_bits 64 y)))
 
 -- a bit of a number is changed
 bits_flip : (n a i : ℕ) → i < n → bits_of n (bit_xor a (2 ^ i)) ≡ add (bits_of n a) (unit i)
@@ -97,14 +106,12 @@ flip_right [] w c = ap (λ k. add w (unit k)) (zero-add c)
 flip_right (x ∷ v) w c =
     ap (λ k. add (x ∷ (v ++ w)) (unit k)) (suc-add (length v) c) ∙ ap₂ {C = Row} (λ b u. b ∷ u) (xor_false x) (flip_right v w c)
 
--- a bit changed in a number is a column changed in the row
-pub unpack_flip : (u : List ℕ) (q r : ℕ) → q < length u → r < 64
-    → unpack (set u q (bit_xor (get_or u q 0) (2 ^ r))) ≡ flip true (unpack u) (q * 64 + r)
-unfolding unpack flip
-unpack_flip [] q r k h = absurd (omega arith)
-unpack_flip (w ∷ u) zero r k h =
-    ap (λ v. v ++ unpack u) (bits_flip 64 w r h)
-    ∙ sym (ap (λ i. add (bits_of 64 w ++ unpack u) (unit i)) (zero-add r) ∙ flip_left (bits_of 64 w) (unpack u) r (rw length_bits h))
-unpack_flip (w ∷ u) (suc q) r k h =
-    ap (λ v. bits_of 64 w ++ v) (unpack_flip u q r (omega arith) h)
-    ∙ sym (ap (λ i. add (bits_of 64 w ++ unpack u) (unit i)) (past_first w q r) ∙ flip_right (bits_of 64 w) (unpack u) (q * 64 + r))
+-- a column of a row in two parts is changed in one of them
+pub flip_column : Column (flip true)
+unfolding flip
+flip_column = record { left = flip_left; right = flip_right }
+
+-- a bit of a number is changed
+pub flip_bits : (a i : ℕ) → i < 64 → bits_of 64 (bit_xor a (2 ^ i)) ≡ flip true (bits_of 64 a) i
+unfolding flip
+flip_bits a i h = bits_flip 64 a i h

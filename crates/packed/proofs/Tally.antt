@@ -1,6 +1,7 @@
 -- Additions counted by the pivot of the row added.
---   count_more        how many numbers are below c, with one more at the end
---   sum_more          the sum of one number more
+--   count_to_is       how many numbers are below c, in the library's word
+--   sum_to_is         the sum of the first numbers, in the library's word
+--   sum_few           a sum of numbers that are at most m
 --   sum_zeros         numbers that are all zero
 --   few_zeros         none of them is more than 0
 --   more_if b xs p     number p is one larger, or not
@@ -8,13 +9,17 @@
 --   tallies_none      a row is reduced by no rows: nothing is counted
 --   tallies_next      by one row more
 use mathlib.Core.Path.{◌≡◌, refl, sym, ap, ◌∙◌}
-use mathlib.Core.Bool.{Bool, true, false}
+use mathlib.Core.Bool.{Bool, true, false, cond}
 use mathlib.Core.List.{List, [], ◌∷◌, ◌++◌}
-use Prim.Native.Nat.{ℕ, zero, suc, ◌+◌, ◌≤◌, ◌<◌}
+use Prim.Native.Nat.{ℕ, zero, suc, ◌+◌, ◌*◌, ◌≤◌, ◌<◌}
+use native.Mathlib.Nat.{suc-mul}
 use native.Mathlib.Numerals.{add-one}
 use native.Mathlib.Omega.{arith}
 use native.Mathlib.Decide.{dec_lt}
 use lib.Dec.{ltb}
+use Rattle.std.proofs.lemmas.List.Recursion.{is_count_by}
+use Rattle.std.proofs.lemmas.List.Sums.{sum_by-cons}
+use Rattle.std.specs.List.{count_by, sum}
 use lib.ListN.{length, get_or, set, take}
 use lib.Seq.{take-suc, get_or-set_same, get_or-set_other}
 use Rattle.gf2.specs.Vector.{Row, entry, Each, digit}
@@ -28,21 +33,28 @@ use Rattle.gf2.proofs.Steps.{reduces_none, reduced_row, reduces_next}
 use Rattle.gf2.proofs.Prefix.{cut_below, cut_above, cut_met, kept_snoc, left_cut}
 use Rattle.packed.specs.Packed.{zeros}
 
--- how many numbers are below c, with one more at the end
-pub count_more : (c : ℕ) (ps : List ℕ) (p : ℕ) → count_to c (ps ++ (p ∷ [])) ≡ count_to c ps + digit (ltb p c)
+-- how many numbers are below c, in the library's word
+pub count_to_is : (c : ℕ) (ps : List ℕ) → count_to c ps ≡ count_by (λ p. ltb p c) ps
 unfolding count_to
-count_more c [] p = omega arith
-count_more c (x ∷ ps) p = omega (arith, count_more c ps p)
-
--- the sum of one number more
-pub sum_more : (i : ℕ) (xs : List ℕ) → i < length xs → sum_to (i + 1) xs ≡ sum_to i xs + get_or xs i 0
-unfolding sum_to
-sum_more i xs l = rw (add-one i) (go i xs l)
+count_to_is c = is_count_by (count_to c) (λ p. ltb p c) refl (λ p ps. one (ltb p c) (count_to c ps))
   where
-    go : (i : ℕ) (xs : List ℕ) → i < length xs → sum_to (suc i) xs ≡ sum_to i xs + get_or xs i 0
-    go i [] l = absurd (omega arith)
-    go zero (x ∷ xs) l = omega arith
-    go (suc i) (x ∷ xs) l = omega (arith, go i xs (omega arith))
+    one : (b : Bool) (n : ℕ) → digit b + n ≡ cond b (1 + n) n
+    one true n = refl
+    one false n = omega arith
+
+-- the sum of the first numbers, in the library's word
+pub sum_to_is : (c : ℕ) (xs : List ℕ) → sum_to c xs ≡ sum (take c xs)
+unfolding sum_to
+sum_to_is zero xs = refl
+sum_to_is (suc c) [] = refl
+sum_to_is (suc c) (x ∷ xs) = ap (λ n. x + n) (sum_to_is c xs) ∙ sym (sum_by-cons (λ y. y) x (take c xs))
+
+-- a sum of numbers that are at most m
+pub sum_few : (c m : ℕ) (xs : List ℕ) → AtMost m xs → sum_to c xs ≤ c * m
+unfolding sum_to
+sum_few zero m xs h = omega arith
+sum_few (suc c) m [] h = omega arith
+sum_few (suc c) m (x ∷ xs) h = omega (arith, suc-mul c m, h 0, sum_few c m xs (λ i. h (suc i)))
 
 -- numbers that are all zero
 pub sum_zeros : (c n : ℕ) → sum_to c (zeros n) ≡ 0
@@ -59,7 +71,8 @@ few_zeros (suc n) m zero = omega arith
 few_zeros (suc n) m (suc i) = few_zeros n m i
 
 -- the sum of the first numbers where one of them is one larger
-sum_below_lem : (c : ℕ) (xs : List ℕ) (p : ℕ) → p < length xs → p < c → sum_to c (set xs p (get_or xs p 0 + 1)) ≡ sum_to c xs + 1
+sum_below_lem : (c : ℕ) (xs : List ℕ) (p : ℕ) → p < length xs → p < c
+    → sum_to c (set xs p (get_or xs p 0 + 1)) ≡ sum_to c xs + 1
 unfolding sum_to
 sum_below_lem zero xs p h l = absurd (omega arith)
 sum_below_lem (suc c) [] p h l = absurd (omega arith)
@@ -108,7 +121,8 @@ module _ (m : ℕ) (rs : List Row) (r v : Row) (f : Each (λ s. length s ≡ m) 
     | no k ↦ rw (cut_above c r (omega arith)) (above b (omega arith) ∙ s)
   ])
     where
-      below : (b : Bool) → pivot r < c → sum_to c (more_if b xs (pivot r)) ≡ n + (count (reduce (kept_to c rs) (cut c v)).added + count (b ∷ []))
+      below : (b : Bool) → pivot r < c
+          → sum_to c (more_if b xs (pivot r)) ≡ n + (count (reduce (kept_to c rs) (cut c v)).added + count (b ∷ []))
       below true k = omega (arith, sum_below_lem c xs (pivot r) inside k, s)
       below false k = omega (arith, s)
 
@@ -117,7 +131,8 @@ module _ (m : ℕ) (rs : List Row) (r v : Row) (f : Each (λ s. length s ≡ m) 
       above false k = refl
 
 -- the rows are as after a reduction
-pub tallies_reduces : (k row : ℕ) (t t' : List Row) (xs ys : List ℕ) → Tallies k row t t' xs ys → Reduces k row t t' (count (reduce (take k t) (row_of t row)).added)
+pub tallies_reduces : (k row : ℕ) (t t' : List Row) (xs ys : List ℕ) → Tallies k row t t' xs ys
+    → Reduces k row t t' (count (reduce (take k t) (row_of t row)).added)
 tallies_reduces k row t t' xs ys h = record { rows = h.rows; additions = refl }
 
 module _ (t : List Row) (row m : ℕ) (long : (j : ℕ) → j < length t → length (row_of t j) ≡ m) (xs : List ℕ) where
@@ -127,8 +142,9 @@ module _ (t : List Row) (row m : ℕ) (long : (j : ℕ) → j < length t → len
   tallies_none = record { rows = (reduces_none t row).rows; additions = λ c. omega arith; few = λ i. omega arith }
 
   -- by one row more
-  pub tallies_next : (k : ℕ) (t' : List Row) (ys : List ℕ) → Tallies k row t t' xs ys → row < length t → k < row → pivot (row_of t k) < m → pivot (row_of t k) < length ys
-      → (b : Bool) (t'' : List Row) → b ≡ entry (row_of t' row) (pivot (row_of t k)) → t'' ≡ set t' row (add_if b (row_of t' row) (row_of t k))
+  pub tallies_next : (k : ℕ) (t' : List Row) (ys : List ℕ) → Tallies k row t t' xs ys → row < length t → k < row
+      → pivot (row_of t k) < m → pivot (row_of t k) < length ys
+      → (b : Bool) (t'' : List Row) → b ≡ entry (row_of t' row) (pivot (row_of t k)) → t'' ≡ set t' row (add_if b (row_of t' row) (row_of t' k))
       → Tallies (k + 1) row t t'' xs (more_if b ys (pivot (row_of t k)))
   tallies_next k t' ys h l s p q b t'' e f = record {
     rows = (reduces_next t row k t' _ reduced l b t'' s e f).rows;

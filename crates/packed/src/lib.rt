@@ -2,9 +2,9 @@
 // single rows outside it. The rows are any rows. The functions that other crates use are kernels for the crates above.
 #![tactic(auto)]
 
-pub mod row; // row.rt: the rows of the workspace, one row at a time
+pub mod row; // row.rt: one row
+pub mod workspace; // workspace.rt: the rows of the workspace
 pub mod basis; // basis.rt: the kept rows, a basis of the span of the rows taken
-pub mod single; // single.rt: one row by itself, outside the workspace
 pub mod solve; // solve.rt: back substitution, a row with given parities against the kept rows
 
 // The bits of a number of the workspace.
@@ -16,5 +16,14 @@ pub const ROW_WORDS: usize = 8;
 // The columns of a row, and the most rows that a basis has.
 pub const COLUMNS: usize = 512;
 
-// The numbers of the workspace: 1,024 rows.
+// The rows of the workspace.
+pub const ROWS: usize = 1024;
+
+// The numbers of the workspace.
 pub const WORKSPACE: usize = 8192;
+
+// A row of 512 columns: bit c % 64, from the lowest, of number c / 64 is its column c.
+pub type Row = [u64; ROW_WORDS];
+
+// The workspace, row by row.
+pub type Rows = [Row; ROWS];

@@ -1,75 +1,58 @@
-// Rows of 512 columns, packed into a lent workspace of 8,192 numbers: row j is the eight numbers from 8 * j, and bit
-// c % 64 (from the lowest) of number c / 64 of a row is its column c. Kernels for the crates above: each contract
-// covers the whole workspace.
-ghost use Rattle.std.specs.Prelude.{◌≡◌, true, ◌-◌, ◌%◌, ◌^◌, ◌<◌, length, set};
-ghost use Rattle.gf2.specs.Vector.{entry as entry_of, add};
-ghost use Rattle.gf2.specs.Elimination.{pivot as pivot_of};
-ghost use Rattle.gf2.specs.Cut.{zero_row, cut, common};
-ghost use Rattle.gf2.specs.Steps.{row_of};
-ghost use Rattle.packed.specs.Packed.{unpacked, zeros};
+// One row of 512 columns, in the workspace or outside it. Kernels for the crates above.
+ghost use Rattle.std.specs.Prelude.{◌≡◌, true, false, ◌%◌, ◌^◌, ◌<◌, set, MatchOption};
+ghost use Rattle.gf2.specs.Vector.{entry as entry_of, add as add_of, dot as dot_of};
+ghost use Rattle.gf2.specs.Elimination.{pivot as pivot_of, is_zero as is_zero_of};
+ghost use Rattle.gf2.specs.Cut.{cut as cut_of, common as common_of};
+ghost use Rattle.gf2.specs.Solve.{flip};
+ghost use Rattle.packed.specs.Packed.{unpack};
 
-use crate::{COLUMNS, ROW_WORDS, WORD_BITS};
+use crate::{Row, WORD_BITS};
+use std::array;
 
-// The entry of row `row` at column `c`.
-pub fn entry(ws: &[u64], row: usize, c: usize) -> bool
-    requires { (length ws.now ≡ 8192) × (row < 1024) × (c < 512) }
-    ensures { result ≡ entry_of (row_of (unpacked ws.now) row) c }
+// The entry of the row at column `c`.
+pub fn entry(row: &Row, c: usize) -> bool
+    requires { c < 512 }
+    ensures { result ≡ entry_of (unpack row.now) c }
 {
-    (ws[row * ROW_WORDS + c / WORD_BITS] >> (c % WORD_BITS)) % 2 == 1
+    (row[c / WORD_BITS] >> (c % WORD_BITS)) % 2 == 1
 }
 
-// The entry of row `row` at column `c` becomes a one.
-pub fn set_entry(ws: &mut [u64], row: usize, c: usize)
-    requires { (length ws.old ≡ 8192) × (row < 1024) × (c < 512) }
-    ensures { unpacked ws.new ≡ set (unpacked ws.old) row (set (row_of (unpacked ws.old) row) c true) }
+// The entry of the row at column `c` becomes a one.
+pub fn set_entry(row: &mut Row, c: usize)
+    requires { c < 512 }
+    ensures { unpack row.new ≡ set (unpack row.old) c true }
 {
-    let i = row * ROW_WORDS + c / WORD_BITS;
-    ws[i] = ws[i] | (1u64 << (c % WORD_BITS));
+    row[c / WORD_BITS] |= 1u64 << (c % WORD_BITS);
 }
 
-// The first column of row `row` with a one; 512 where there is none.
-pub fn pivot(ws: &[u64], row: usize) -> usize
-    requires { (length ws.now ≡ 8192) × (row < 1024) }
-    ensures { result ≡ pivot_of (row_of (unpacked ws.now) row) }
+// Column `c` of the row is changed.
+pub fn flip_column(row: &mut Row, c: usize)
+    requires { c < 512 }
+    ensures { unpack row.new ≡ flip true (unpack row.old) c }
 {
-    let mut k: usize = 0;
-    while k < ROW_WORDS {
-        let w = ws[row * ROW_WORDS + k];
-        if w != 0 {
-            return k * WORD_BITS + u64::trailing_zeros(w) as usize;
-        }
-        k += 1;
-    }
-    COLUMNS
+    row[c / WORD_BITS] ^= 1u64 << (c % WORD_BITS);
 }
 
-// Row `from` is added to row `to`.
-pub fn add_row(ws: &mut [u64], to: usize, from: usize)
-    requires { (length ws.old ≡ 8192) × (to < 1024) × (from < 1024) }
-    ensures { unpacked ws.new ≡ set (unpacked ws.old) to (add (row_of (unpacked ws.old) to) (row_of (unpacked ws.old) from)) }
+// The first column of the row with a one; none where the row is zero.
+pub fn pivot(row: &Row) -> Option<usize>
+    ensures { MatchOption result (is_zero_of (unpack row.now) ≡ true) (λ c. (c ≡ pivot_of (unpack row.now)) × (c < 512) × (is_zero_of (unpack row.now) ≡ false)) }
 {
-    let mut k: usize = 0;
-    while k < ROW_WORDS {
-        let i = to * ROW_WORDS + k;
-        let j = from * ROW_WORDS + k;
-        ws[i] = ws[i] ^ ws[j];
-        k += 1;
-    }
+    let k = row.iter().position(|&word| word != 0)?;
+    Some(k * WORD_BITS + row[k].trailing_zeros() as usize)
 }
 
-// Row `to` becomes the common ones of rows `p` and `q`.
-pub fn common_row(ws: &mut [u64], to: usize, p: usize, q: usize)
-    requires { (length ws.old ≡ 8192) × (to < 1024) × (p < 1024) × (q < 1024) }
-    ensures { unpacked ws.new ≡ set (unpacked ws.old) to (common (row_of (unpacked ws.old) p) (row_of (unpacked ws.old) q)) }
+// The sum of two rows.
+pub fn add(x: &Row, y: &Row) -> Row
+    ensures { unpack result ≡ add_of (unpack x.now) (unpack y.now) }
 {
-    let mut k: usize = 0;
-    while k < ROW_WORDS {
-        let i = to * ROW_WORDS + k;
-        let a = p * ROW_WORDS + k;
-        let b = q * ROW_WORDS + k;
-        ws[i] = ws[a] & ws[b];
-        k += 1;
-    }
+    array::from_fn(|k| x[k] ^ y[k])
+}
+
+// The common ones of two rows.
+pub fn common(x: &Row, y: &Row) -> Row
+    ensures { unpack result ≡ common_of (unpack x.now) (unpack y.now) }
+{
+    array::from_fn(|k| x[k] & y[k])
 }
 
 // The `columns` lowest bits of `w`, with zeros above them.
@@ -82,50 +65,31 @@ fn cut_word(w: u64, columns: usize) -> u64
     w
 }
 
-// What is left of `a` after `b`, zero where `b` is the larger.
-fn saturating_sub(a: usize, b: usize) -> usize
-    ensures { result ≡ a - b }
+// The row with zeros from column `columns` on.
+pub fn cut(row: &Row, columns: usize) -> Row
+    ensures { unpack result ≡ cut_of columns (unpack row.now) }
 {
-    if b < a {
-        return a - b;
-    }
-    0
+    array::from_fn(|k| cut_word(row[k], columns.saturating_sub(k * WORD_BITS)))
 }
 
-// Row `to` becomes row `from` with zeros from column `columns` on.
-pub fn copy_columns(ws: &mut [u64], to: usize, from: usize, columns: usize)
-    requires { (length ws.old ≡ 8192) × (to < 1024) × (from < 1024) }
-    ensures { unpacked ws.new ≡ set (unpacked ws.old) to (cut columns (row_of (unpacked ws.old) from)) }
+// Whether two rows have an odd number of common ones.
+pub fn dot(x: &Row, y: &Row) -> bool
+    ensures { result ≡ dot_of (unpack x.now) (unpack y.now) }
 {
-    let mut k: usize = 0;
-    while k < ROW_WORDS {
-        let i = to * ROW_WORDS + k;
-        let j = from * ROW_WORDS + k;
-        ws[i] = cut_word(ws[j], saturating_sub(columns, k * WORD_BITS));
-        k += 1;
-    }
+    let count: u32 = x.iter().zip(y).map(|(a, b)| (a & b).count_ones()).sum();
+    count % 2 == 1
 }
 
-// Every entry of row `row` becomes zero.
-pub fn clear_row(ws: &mut [u64], row: usize)
-    requires { (length ws.old ≡ 8192) × (row < 1024) }
-    ensures { unpacked ws.new ≡ set (unpacked ws.old) row zero_row }
+// Whether no column has a one in both rows.
+pub fn disjoint(x: &Row, y: &Row) -> bool
+    ensures { result ≡ is_zero_of (common_of (unpack x.now) (unpack y.now)) }
 {
-    let mut k: usize = 0;
-    while k < ROW_WORDS {
-        let i = row * ROW_WORDS + k;
-        ws[i] = 0;
-        k += 1;
-    }
+    x.iter().zip(y).all(|(a, b)| a & b == 0)
 }
 
-// Every number becomes zero.
-pub fn clear(ws: &mut [u64])
-    ensures { ws.new ≡ zeros (length ws.old) }
+// Whether no column has a one: the row has then none in common with itself.
+pub fn is_zero(x: &Row) -> bool
+    ensures { result ≡ is_zero_of (unpack x.now) }
 {
-    let mut i: usize = 0;
-    while i < ws.len() {
-        ws[i] = 0;
-        i += 1;
-    }
+    disjoint(x, x)
 }

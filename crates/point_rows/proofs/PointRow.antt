@@ -8,11 +8,12 @@
 use mathlib.Core.Path.{◌≡◌, refl, sym, ap, ◌∙◌}
 use mathlib.Core.Bool.{Bool, false, ◌&&◌}
 use mathlib.Core.List.{List, [], ◌∷◌, ◌++◌, map, map-append}
-use Prim.Native.Nat.{ℕ, ◌-◌, ◌≤◌, ◌<◌}
+use Prim.Native.Nat.{ℕ, zero, suc, ◌-◌, ◌≤◌, ◌<◌}
 use native.Mathlib.Omega.{arith}
 use lib.Bits.{bit_and, and_le_r}
 use lib.Dec.{ltb}
 use lib.ListN.{length, take, replicate, length-map}
+use Rattle.std.proofs.lemmas.List.{take-map}
 use borrow.Author.Tests.{ne_eqb}
 use Rattle.cube.specs.NumberLists.{select}
 use Rattle.cube.specs.Cube.{size, within}
@@ -26,7 +27,6 @@ use Rattle.gf2.proofs.Each.{member_each, map_each}
 use Rattle.gf2.proofs.Padded.{append_padded, cut_padded}
 use Rattle.point_rows.specs.Rows.{monomials, row}
 use Rattle.point_rows.specs.Workspace.{exponents}
-use Rattle.point_rows.proofs.Maps.{map_take, map_replicate}
 
 -- the row of the point a at degree d, continued by zeros to 512 columns
 abbrev pub wide_row : List ℕ → ℕ → ℕ → ℕ → Row
@@ -39,7 +39,12 @@ short_row {o} g n d a = rw (length-map (columns o n d) (λ u. within u a)) (leng
 -- the row of a point at a degree is the front of its row at a higher degree
 pub row_prefix : {o : List ℕ} → Graded o → (n d e a : ℕ) → d ≤ e → row o n d a ≡ take (length (columns o n d)) (row o n e a)
 row_prefix {o} g n d e a l =
-    ap (λ us. monomials us a) (columns_prefix g n d e l) ∙ map_take (λ u. within u a) (length (columns o n d)) (columns o n e)
+    ap (λ us. monomials us a) (columns_prefix g n d e l) ∙ sym (take-map (λ u. within u a) (length (columns o n d)) (columns o n e))
+
+-- the images of equal members
+map_replicate : (f : ℕ → Bool) (m x : ℕ) → map f (replicate m x) ≡ replicate m (f x)
+map_replicate f zero x = refl
+map_replicate f (suc m) x = ap (λ ys. f x ∷ ys) (map_replicate f m x)
 
 -- 65535 lies within no point
 within_none : (a : ℕ) → a < 512 → within 65535 a ≡ false

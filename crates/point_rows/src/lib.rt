@@ -2,18 +2,18 @@
 // its columns in an order of the exponents.
 #![tactic(auto)]
 
-ghost use Rattle.std.specs.Prelude.{◌≡◌, ◌+◌, ◌≤◌, ◌<◌, length, set, take, drop};
+ghost use Rattle.std.specs.Prelude.{◌≡◌, ◌+◌, ◌≤◌, ◌<◌, set, take, drop};
 ghost use Rattle.cube.specs.Cube.{size as size_of};
-ghost use Rattle.order.specs.Order.{Graded};
 ghost use Rattle.gf2.specs.Vector.{digit};
 ghost use Rattle.packed.specs.Packed.{unpacked, number};
 ghost use Rattle.point_rows.specs.Rows.{monomials};
 ghost use Rattle.point_rows.specs.Workspace.{exponents as exponents_of, filled, RowsFrom, Splits};
 
-use cube::{POINTS, Point, size, within};
-use order::exponent_at;
-use packed::row::common_row;
-use packed::{COLUMNS, ROW_WORDS, WORD_BITS};
+use cube::{Point, size, within};
+use order::{Order, exponent_at};
+use packed::workspace::common_row;
+use packed::{COLUMNS, Rows, WORD_BITS};
+use std::array;
 
 // The row of the workspace for point 0. Those of the other points follow it.
 const FIRST_POINT: usize = 512;
@@ -29,58 +29,40 @@ pub fn row_of(a: Point) -> usize
 }
 
 // The exponents of `n` taps in order, then an exponent that lies within no point.
-fn exponents(order: &[u16], n: usize) -> [u16; 512]
-    requires { Graded order.now × (n ≤ 9) }
-    ensures { result ≡ exponents_of order.now n }
+fn exponents(order: &Order, n: usize) -> [u16; COLUMNS]
+    requires { n ≤ 9 }
+    ensures { result ≡ exponents_of order.now.list n }
 {
     let points = size(n);
     let mut list = [NO_EXPONENT; COLUMNS];
     let mut count: usize = 0;
-    let mut i: usize = 0;
-    while i < POINTS {
-        let u = exponent_at(order, i);
-        if (u.0 as usize) < points {
-            list[count] = u.0;
+    for &u in &order.list {
+        if (u as usize) < points {
+            list[count] = u;
             count += 1;
         }
-        i += 1;
     }
     list
 }
 
-// 1 or 0.
-fn bit(b: bool) -> u64
-    ensures { result ≡ digit b }
-{
-    if b { 1 } else { 0 }
-}
-
 // The 64 columns of the point `a` from column `from` on, the first in the lowest bit.
-fn row_word(exponents: &[u16; 512], from: usize, a: Point) -> u64
-    requires { (length exponents.now ≡ 512) × (from + 64 ≤ 512) }
+fn row_word(exponents: &[u16; COLUMNS], from: usize, a: Point) -> u64
+    requires { from + 64 ≤ 512 }
     ensures { result ≡ number (monomials (take 64 (drop from exponents.now)) a.0) }
 {
     let mut w: u64 = 0;
-    let mut i: usize = WORD_BITS;
-    while 0 < i {
-        i -= 1;
-        w = w * 2 + bit(within(exponent_at(exponents, from + i), a));
+    for i in (0..WORD_BITS).rev() {
+        w = w * 2 + u64::from(within(exponent_at(exponents, from + i), a));
     }
     w
 }
 
-// The row of the point `a` is put in its place, entry by entry.
-fn fill_row(ws: &mut [u64], exponents: &[u16; 512], a: Point)
-    requires { (length ws.old ≡ 8192) × (length exponents.now ≡ 512) × (a.0 < 512) }
+// The row of the point `a` is put in its place, number by number.
+fn fill_row(ws: &mut Rows, exponents: &[u16; COLUMNS], a: Point)
+    requires { a.0 < 512 }
     ensures { unpacked ws.new ≡ set (unpacked ws.old) (512 + a.0) (monomials exponents.now a.0) }
 {
-    let row = row_of(a);
-    let mut k: usize = 0;
-    while k < ROW_WORDS {
-        let i = row * ROW_WORDS + k;
-        ws[i] = row_word(exponents, k * WORD_BITS, a);
-        k += 1;
-    }
+    ws[row_of(a)] = array::from_fn(|k| row_word(exponents, k * WORD_BITS, a));
 }
 
 // Two points whose common bits are a third.
@@ -106,30 +88,27 @@ fn split_point(n: usize, a: Point) -> Pair
 
 // The row of the point `a` is put in its place, where those of all points above it stand in theirs: if `a` is the common
 // bits of two of them its row is the common ones of theirs.
-fn fill_point(ws: &mut [u64], exponents: &[u16; 512], n: usize, a: Point)
-    requires { (length ws.old ≡ 8192) × (length exponents.now ≡ 512) × (n ≤ 9) × (a.0 < size_of n) × RowsFrom exponents.now n (unpacked ws.old) (a.0 + 1) }
+fn fill_point(ws: &mut Rows, exponents: &[u16; COLUMNS], n: usize, a: Point)
+    requires { (n ≤ 9) × (a.0 < size_of n) × RowsFrom exponents.now n (unpacked ws.old) (a.0 + 1) }
     ensures { unpacked ws.new ≡ set (unpacked ws.old) (512 + a.0) (monomials exponents.now a.0) }
 {
     let s = split_point(n, a);
-    if a.0 < s.p.0 {
-        if a.0 < s.q.0 {
-            common_row(ws, row_of(a), row_of(s.p), row_of(s.q));
-            return;
-        }
+    if a.0 < s.p.0 && a.0 < s.q.0 {
+        common_row(ws, row_of(a), row_of(s.p), row_of(s.q));
+    } else {
+        fill_row(ws, exponents, a);
     }
-    fill_row(ws, exponents, a);
 }
 
 // The row of each point of `n` taps at degree `n` is put in its place. A kernel for the crates above: no other row
 // changes.
-pub fn fill_rows(ws: &mut [u64], order: &[u16], n: usize)
-    requires { (length ws.old ≡ 8192) × Graded order.now × (n ≤ 9) }
-    ensures { unpacked ws.new ≡ filled (exponents_of order.now n) n (unpacked ws.old) }
+#[inline(never)] // its list of exponents is on the stack only while it runs
+pub fn fill_rows(ws: &mut Rows, order: &Order, n: usize)
+    requires { n ≤ 9 }
+    ensures { unpacked ws.new ≡ filled (exponents_of order.now.list n) n (unpacked ws.old) }
 {
     let list = exponents(order, n);
-    let mut a = size(n);
-    while 0 < a {
-        a -= 1;
+    for a in (0..size(n)).rev() {
         fill_point(ws, &list, n, Point(a as u16));
     }
 }

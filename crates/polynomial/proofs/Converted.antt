@@ -7,6 +7,7 @@
 use mathlib.Core.Path.{◌≡◌, sym, ap, ◌∙◌}
 use mathlib.Core.List.{List, ◌++◌}
 use Prim.Native.Nat.{ℕ, ◌≤◌}
+use Rattle.std.specs.Prelude.{Ok, Err}
 use native.Mathlib.Omega.{arith}
 use lib.Dec.{eqb}
 use lib.ListN.{length, take, drop}
@@ -20,23 +21,21 @@ use Rattle.cube.proofs.Masks.{byte_small}
 use Rattle.refusal.specs.Refusal.{number_of}
 use Rattle.refusal.specs.Outcome.{refused, accepted, left}
 use Rattle.refusal.specs.declared.Refusal.{Refusal}
-use Rattle.refusal.specs.declared.verdict.Verdict.TheVariants as verdicts
 use Rattle.refusal.specs.Verdict.{verdict}
 use Rattle.refusal.proofs.Verdicts.{passed_all, verdict_refuses, verdict_passes}
 use Rattle.polynomial.specs.Convert.{Bits, values, converted, convert_checks, convert_outcome, convert_leaves, ConvertContract}
-use Rattle.polynomial.specs.declared.convert.ConvertAnswer.TheVariants.{Refused, Accepted}
 use Rattle.polynomial.proofs.Halves.{values_same}
 use Rattle.polynomial.proofs.HalvesInPlace.{bits_take}
 
 module _ (n : ℕ) (b : List ℕ) where
   -- a broken check
-  pub convert_refuses : {x : Refusal} → verdict (convert_checks n b) ≡ verdicts.Refused x → ConvertContract n b b (Refused x)
+  pub convert_refuses : {x : Refusal} → verdict (convert_checks n b) ≡ Err x → ConvertContract n b b (Err x)
   unfolding convert_outcome convert_leaves
   convert_refuses {x} e =
       let broken : convert_outcome n b ≡ refused (number_of x) = verdict_refuses (convert_checks n b) (accepted tt) e in
       record { answers = sym broken; leaves = sym (ap (λ o. left o b (converted n b)) broken) }
 
-  module _ (passed : verdict (convert_checks n b) ≡ verdicts.Passed) where
+  module _ (passed : verdict (convert_checks n b) ≡ Ok tt) where
     -- the points fit the buffer
     pub convert_fits : size n ≤ length b
     convert_fits =
@@ -54,7 +53,7 @@ module _ (n : ℕ) (b : List ℕ) where
         (length-take-le (size n) b convert_fits, bits_take (size n) b (λ k. byte_small (size n) b k formed))
 
     -- no check is broken
-    pub convert_accepts : (r : List ℕ) → r ≡ values n (member (take (size n) b)) → ConvertContract n b (r ++ drop (size n) b) Accepted
+    pub convert_accepts : (r : List ℕ) → r ≡ values n (member (take (size n) b)) → ConvertContract n b (r ++ drop (size n) b) (Ok tt)
     unfolding convert_leaves convert_outcome converted
     convert_accepts r e =
         let passes : convert_outcome n b ≡ accepted tt = verdict_passes (convert_checks n b) (accepted tt) passed in

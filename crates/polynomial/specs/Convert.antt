@@ -6,19 +6,16 @@
 --   convert_checks n b   the checks of Convert, in order
 --   convert_outcome n b  what Convert answers, lent the bytes b
 --   convert_leaves n b   the bytes as Convert leaves them
---   outcome_of r         the outcome that an answer states
 --   ConvertContract ..   the contract of Convert
 use Rattle.std.specs.Prelude.{◌≡◌, List, ◌++◌, map, ℕ, ◌+◌, ◌≤◌, length, get_or, take, drop}
 use Rattle.std.specs.Int.Bits.{bit_xor}
 use Rattle.cube.specs.NumberLists.{below}
 use Rattle.cube.specs.Cube.{size}
 use Rattle.cube.specs.Mask.{member, byte}
-use Rattle.refusal.specs.Refusal.{number_of}
-use Rattle.refusal.specs.Outcome.{Outcome, refused, accepted, Check, checked, left}
+use Rattle.refusal.specs.Outcome.{Outcome, accepted, Check, checked, left, outcome_of}
+use Rattle.refusal.specs.Verdict.{Verdict}
 use Rattle.filter.specs.Checks.{length_is, taps_of, mask_of}
 use Rattle.polynomial.specs.Polynomial.{Polynomial, value}
-use Rattle.polynomial.specs.declared.convert.ConvertAnswer.{ConvertAnswer}
-use Rattle.polynomial.specs.declared.convert.ConvertAnswer.TheVariants.{Refused, Accepted}
 
 -- each byte is 0 or 1
 abbrev pub Bits : List ℕ → Type 0
@@ -51,12 +48,7 @@ unfoldable pub convert_leaves : ℕ → List ℕ → List ℕ
 unfolding convert_outcome converted
 convert_leaves n b = left (convert_outcome n b) b (converted n b)
 
--- the number of a refusal, or the values
-abbrev pub outcome_of : ConvertAnswer → Outcome Unit
-outcome_of (Refused r) = refused (number_of r)
-outcome_of Accepted = accepted tt
-
 -- the answer, and the bytes at exit
-pub record ConvertContract (n : ℕ) (b b' : List ℕ) (r : ConvertAnswer) : Type 0 where
+pub record ConvertContract (n : ℕ) (b b' : List ℕ) (r : Verdict) : Type 0 where
   pub answers : outcome_of r ≡ convert_outcome n b
   pub leaves : b' ≡ convert_leaves n b

@@ -2,18 +2,15 @@
 --   exponents b         the exponents whose coefficient in b is 1, rising
 --   degree_checks n b   the checks of Degree, in order
 --   degree_outcome n b  what Degree answers, lent the coefficients b
---   outcome_of r        the outcome that an answer states
 --   DegreeContract ..   the contract of Degree
-use Rattle.std.specs.Prelude.{◌≡◌, not, List, [], ◌∷◌, ◌++◌, ℕ}
+use Rattle.std.specs.Prelude.{◌≡◌, not, List, [], ◌∷◌, ◌++◌, ℕ, Result}
 use Rattle.cube.specs.NumberLists.{largest, is_empty}
 use Rattle.cube.specs.Cube.{weight}
 use Rattle.cube.specs.Mask.{marked}
-use Rattle.refusal.specs.Refusal.{number_of}
-use Rattle.refusal.specs.Outcome.{Outcome, refused, accepted, Check, ◌otherwise◌, checked}
+use Rattle.refusal.specs.Outcome.{Outcome, accepted, Check, ◌otherwise◌, checked, outcome_of}
+use Rattle.refusal.specs.declared.Refusal.{Refusal}
 use Rattle.refusal.specs.declared.Refusal.TheVariants.{ZeroPolynomial}
 use Rattle.polynomial.specs.Convert.{convert_checks}
-use Rattle.polynomial.specs.declared.degree.DegreeAnswer.{DegreeAnswer}
-use Rattle.polynomial.specs.declared.degree.DegreeAnswer.TheVariants.{Refused, Accepted}
 
 -- the exponents whose coefficient is 1
 abbrev pub exponents : List ℕ → List ℕ
@@ -29,11 +26,6 @@ unfoldable pub degree_outcome : ℕ → List ℕ → Outcome ℕ
 unfolding largest
 degree_outcome n b = checked (degree_checks n b) (accepted (largest weight (exponents b)))
 
--- the number of a refusal, or the values
-abbrev pub outcome_of : DegreeAnswer → Outcome ℕ
-outcome_of (Refused r) = refused (number_of r)
-outcome_of (Accepted d) = accepted d
-
 -- what is answered
-pub record DegreeContract (n : ℕ) (b : List ℕ) (r : DegreeAnswer) : Type 0 where
+pub record DegreeContract (n : ℕ) (b : List ℕ) (r : Result ℕ Refusal) : Type 0 where
   pub answers : outcome_of r ≡ degree_outcome n b

@@ -4,30 +4,19 @@ ghost use Rattle.std.specs.Prelude.{◌≡◌, ◌+◌, length};
 ghost use Rattle.cube.specs.Cube.{size as size_of};
 ghost use Rattle.cube.specs.Mask.{member};
 ghost use Rattle.refusal.specs.Verdict.{verdict};
-ghost use Rattle.refusal.specs.declared.verdict.Verdict.TheVariants.{Passed};
 ghost use Rattle.polynomial.specs.Convert.{Bits, values, lower_added, convert_checks, ConvertContract};
 
 use cube::{POINTS, size};
 use filter::checks::{check_length, check_mask, check_taps};
 use refusal::Refusal;
-use refusal::verdict::Verdict;
-
-// What Convert answers.
-#[derive(Clone, Copy)]
-pub enum ConvertAnswer {
-    Refused(Refusal),
-    Accepted,
-}
 
 // Adds the lower half of `s`, of `h` bytes, into the upper.
 fn add_lower(s: &mut [u8], h: usize)
     requires { length s.old ≡ h + h }
     ensures { s.new ≡ lower_added h s.old }
 {
-    let mut i = 0;
-    while i < h {
+    for i in 0..h {
         s[h + i] = s[i] ^ s[h + i];
-        i += 1;
     }
 }
 
@@ -47,30 +36,20 @@ fn transform(s: &mut [u8], n: usize)
 }
 
 // Converts the first N bytes of `bytes`, a table or coefficients of `n` taps, into the other.
-pub fn convert(bytes: &mut [u8], n: usize) -> ConvertAnswer
+pub fn convert(bytes: &mut [u8], n: usize) -> Result<(), Refusal>
     ensures { ConvertContract n bytes.old bytes.new result }
 {
-    match convert_checks(bytes, n) {
-        Verdict::Refused(x) => ConvertAnswer::Refused(x),
-        Verdict::Passed => convert_points(bytes, n),
-    }
+    convert_checks(bytes, n)?;
+    let points = size(n);
+    transform(&mut bytes[..points], n);
+    Ok(())
 }
 
 // The checks: the length, the taps, the bytes.
-pub fn convert_checks(bytes: &[u8], n: usize) -> Verdict
+pub fn convert_checks(bytes: &[u8], n: usize) -> Result<(), Refusal>
     ensures { result ≡ verdict (convert_checks n bytes.now) }
 {
-    let v = check_length(Verdict::Passed, bytes.len(), POINTS);
-    let v = check_taps(v, n);
-    check_mask(v, bytes, n)
-}
-
-// The same of bytes that passed the checks.
-fn convert_points(bytes: &mut [u8], n: usize) -> ConvertAnswer
-    requires { verdict (convert_checks n bytes.old) ≡ Passed }
-    ensures { ConvertContract n bytes.old bytes.new result }
-{
-    let points = size(n);
-    transform(&mut bytes[..points], n);
-    ConvertAnswer::Accepted
+    check_length(bytes.len(), POINTS)?;
+    check_taps(n)?;
+    check_mask(bytes, n)
 }

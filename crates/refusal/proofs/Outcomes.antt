@@ -1,6 +1,9 @@
 -- What an acceptance and a refusal show.
 --   not_both          an outcome is not both refused and accepted
 --   accepted_value    what is accepted is one value
+--   accepted_answer   an answer that states an acceptance has its value
+--   accepted_by       and where f makes the accepted values of it, that value makes them
+--   refused_by        one that states a refusal is a refusal of that number
 --   number_not_6      6 is the number of no refusal
 --   checked_not_6     so checks never refuse by it
 --   check_passed      an outcome that accepts after checks has passed the first of them
@@ -14,7 +17,8 @@ use mathlib.Core.Bool.{Bool, true, false}
 use mathlib.Core.List.{List, [], ◌∷◌}
 use Prim.Native.Nat.{ℕ}
 use native.Mathlib.Omega.{arith}
-use Rattle.refusal.specs.Outcome.{Outcome, refused, accepted, Check, ◌otherwise◌, checked, mapped, left_by}
+use Rattle.std.specs.Prelude.{Result, Ok, Err}
+use Rattle.refusal.specs.Outcome.{Outcome, refused, accepted, Check, ◌otherwise◌, checked, mapped, left_by, outcome_of, outcome_by}
 use Rattle.refusal.specs.Status.{status_of}
 use Rattle.refusal.specs.Refusal.{number_of}
 use Rattle.refusal.specs.declared.Refusal.{Refusal}
@@ -22,11 +26,26 @@ use Rattle.refusal.specs.declared.Refusal.TheVariants.{Length, FileEnds, NumberF
 
 -- an outcome is not both refused and accepted
 pub not_both : {A : Type 0} {k : ℕ} {a : A} → refused k ≡ accepted a → ⊥
-not_both e = let z : ◌≡◌ {A = ℕ} 0 1 = cc in omega arith
+not_both e = cc
 
 -- what is accepted is one value
 pub accepted_value : {A : Type 0} {x y : A} → ◌≡◌ {A = Outcome A} (accepted x) (accepted y) → x ≡ y
 accepted_value {A} {x} e = ap (λ (o : Outcome A). left_by o x (λ z. z)) e
+
+-- an answer that states an acceptance has its value
+pub accepted_answer : {A : Type 0} (r : Result A Refusal) {a : A} → outcome_of r ≡ accepted a → r ≡ Ok a
+accepted_answer (Err x) e = cc
+accepted_answer (Ok b) e = ap Ok (accepted_value e)
+
+-- and where f makes the accepted values of it, that value makes them
+pub accepted_by : {A B : Type 0} (f : A → B) (r : Result A Refusal) {b : B} → outcome_by r f ≡ accepted b → (a : A) × (r ≡ Ok a) × (f a ≡ b)
+accepted_by f (Err x) e = absurd (not_both e)
+accepted_by f (Ok a) e = (a, refl, accepted_value e)
+
+-- one that states a refusal is a refusal of that number
+pub refused_by : {A B : Type 0} (f : A → B) (r : Result A Refusal) {k : ℕ} → outcome_by r f ≡ refused k → (x : Refusal) × (r ≡ Err x) × (number_of x ≡ k)
+refused_by f (Err x) e = (x, refl, cc e)
+refused_by f (Ok a) e = absurd (not_both (sym e))
 
 -- 6 is the number of no refusal
 pub number_not_6 : (x : Refusal) → number_of x ≢ 6

@@ -6,7 +6,9 @@
 --   mapped f o           the outcome o, with what f makes of the accepted values
 --   left o old new       a lent buffer at exit: `new` where the outcome accepts, as at entry where it refuses
 --   left_by o old f      the same, where the accepted values give what is new
-use Rattle.std.specs.Prelude.{Bool, true, false, List, [], ◌∷◌, ℕ}
+--   outcome_of r         the outcome that an answer states
+--   outcome_by r f       the same, where f makes the accepted values of what is answered
+use Rattle.std.specs.Prelude.{Bool, true, false, List, [], ◌∷◌, ℕ, Result, Ok, Err}
 use Rattle.refusal.specs.declared.Refusal.{Refusal}
 use Rattle.refusal.specs.Refusal.{number_of}
 
@@ -44,3 +46,13 @@ left (accepted a) old new = new
 abbrev pub left_by : {A : Type 0} {B : Type 0} → Outcome A → B → (A → B) → B
 left_by (refused k) old new = old
 left_by (accepted a) old new = new a
+
+-- the number of the refusal that is answered, or the value
+abbrev pub outcome_of : {A : Type 0} → Result A Refusal → Outcome A
+outcome_of (Err x) = refused (number_of x)
+outcome_of (Ok a) = accepted a
+
+-- the same, where f makes the accepted values of what is answered
+abbrev pub outcome_by : {A : Type 0} {B : Type 0} → Result A Refusal → (A → B) → Outcome B
+outcome_by (Err x) f = refused (number_of x)
+outcome_by (Ok a) f = accepted (f a)

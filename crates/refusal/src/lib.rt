@@ -6,7 +6,7 @@ ghost use Rattle.refusal.specs.Refusal.{number_of};
 
 pub mod verdict; // verdict.rt: the verdict of a list of checks
 
-#[derive(Clone, Copy)]
+#[derive(Clone, Copy, Debug, PartialEq, Eq)]
 pub enum Refusal {
     // 1: a lent buffer has the wrong length.
     Length,
@@ -37,22 +37,24 @@ pub enum Refusal {
 }
 
 // The number of a refusal.
-pub fn number(r: Refusal) -> u8
-    ensures { result ≡ number_of r }
-{
-    match r {
-        Refusal::Length => 1,
-        Refusal::FileEnds => 2,
-        Refusal::NumberForm => 3,
-        Refusal::Taps => 4,
-        Refusal::Range => 5,
-        Refusal::Surplus => 7,
-        Refusal::Bytes => 8,
-        Refusal::ZeroPolynomial => 9,
-        Refusal::Degree => 10,
-        Refusal::Side => 11,
-        Refusal::RanksDiffer => 12,
-        Refusal::ShortOutput => 13,
-        Refusal::Wiring => 14,
+impl From<Refusal> for u8 {
+    ghost from_gives = { λ r k. k ≡ number_of r };
+
+    fn from(r: Refusal) -> u8 {
+        match r {
+            Refusal::Length => 1,
+            Refusal::FileEnds => 2,
+            Refusal::NumberForm => 3,
+            Refusal::Taps => 4,
+            Refusal::Range => 5,
+            Refusal::Surplus => 7,
+            Refusal::Bytes => 8,
+            Refusal::ZeroPolynomial => 9,
+            Refusal::Degree => 10,
+            Refusal::Side => 11,
+            Refusal::RanksDiffer => 12,
+            Refusal::ShortOutput => 13,
+            Refusal::Wiring => 14,
+        }
     }
 }

@@ -1,26 +1,13 @@
-// The verdict of checks: passed, or the refusal of the first broken one.
-ghost use Rattle.std.specs.Prelude.{◌≡◌};
-ghost use Rattle.refusal.specs.Verdict.{also_of};
+// The verdict of checks: passed, or the refusal of the first broken one. Checks follow each other by `?`.
+ghost use Rattle.std.specs.Prelude.{◌≡◌, [], ◌∷◌};
+ghost use Rattle.refusal.specs.Outcome.{◌otherwise◌};
+ghost use Rattle.refusal.specs.Verdict.{verdict};
 
 use crate::Refusal;
 
-#[derive(Clone, Copy)]
-pub enum Verdict {
-    Passed,
-    Refused(Refusal),
-}
-
-// One check more: `why` where it is broken and no check before it is.
-pub fn also(v: Verdict, holds: bool, why: Refusal) -> Verdict
-    ensures { result ≡ also_of v holds why }
+// One check: `why` where it is broken.
+pub fn require(holds: bool, why: Refusal) -> Result<(), Refusal>
+    ensures { result ≡ verdict (holds otherwise why ∷ []) }
 {
-    match v {
-        Verdict::Refused(x) => Verdict::Refused(x),
-        Verdict::Passed => {
-            if holds {
-                return Verdict::Passed;
-            }
-            Verdict::Refused(why)
-        }
-    }
+    if holds { Ok(()) } else { Err(why) }
 }

@@ -5,18 +5,15 @@
 --   blocks_all        after nine steps they are the sums of the whole row
 use mathlib.Core.Path.{◌≡◌, sym, ap, ap₂, ◌∙◌}
 use mathlib.Core.Bool.{Bool, false, xor, ◌&&◌, and-true, and-false}
-use mathlib.Core.List.{map}
 use Prim.Native.Nat.{ℕ, suc, ◌+◌, ◌*◌, ◌/◌, ◌%◌, ◌^◌, ◌<◌}
 use native.Mathlib.Nat.{mul-add, add-mul, one-mul}
 use native.Mathlib.Omega.{arith}
-use lib.ListN.{length, length-map}
+use lib.ListN.{length}
 use lib.Pow.{high}
-use lib.Seq.{ext_get_or}
 use borrow.Author.Tests.{eq-eqb, ne_eqb}
-use Rattle.cube.specs.NumberLists.{below}
 use Rattle.cube.specs.Cube.{size, within}
 use Rattle.cube.proofs.Halves.{within_low_high, within_high_low, within_high_high}
-use Rattle.cube.proofs.Masks.{length_from, value_at}
+use Rattle.cube.proofs.Masks.{values_told}
 use Rattle.gf2.specs.Vector.{Row, entry}
 use Rattle.gf2.proofs.Bits.{false_xor, xor_false}
 use Rattle.polynomial.specs.Polynomial.{sum_below}
@@ -111,8 +108,7 @@ module _ (k : ℕ) (v w w' : ℕ → Bool) (s : BlockSums k v w) (t : Stepped k 
 pub blocks_all : (v w : Row) → length w ≡ 512 → BlockSums 9 (entry v) (entry w) → w ≡ superset_sums v
 unfolding superset_sums
 blocks_all v w long s =
-    ext_get_or false w (map (superset_sum 9 (entry v)) (below 512)) (long ∙ sym (length-map (below 512) (superset_sum 9 (entry v)) ∙ length_from 0 512))
-    (λ u l. sums u (omega arith) ∙ sym (value_at (superset_sum 9 (entry v)) 512 u false (omega arith)))
+    values_told (superset_sum 9 (entry v)) 512 false w long sums
   where
     sums : (u : ℕ) → u < 512 → entry w u ≡ superset_sum 9 (entry v) u
     sums u l =

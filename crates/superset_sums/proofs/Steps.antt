@@ -11,7 +11,7 @@ use native.Mathlib.Nat.{mod-lt, zero-lt-suc, zero-div}
 use native.Mathlib.Omega.{arith}
 use lib.Bits.{bit_and, bit_xor, and_shr, xor_shr, and_zero_l, xor_zero_l}
 use lib.Dec.{eqb, ltb}
-use lib.ListN.{length, get_or, length-map, get_or-eq_default}
+use lib.ListN.{length, get_or, length-map, get_or-map, get_or-eq_default}
 use lib.Pow.{shr-shr, mod-mod-pow, field, pow-add}
 use borrow.Author.Tests.{ltb-true, not-true}
 use Rattle.cube.specs.NumberLists.{below, all_below}
@@ -62,15 +62,15 @@ fold_zero s m = rw (zero-div (2 ^ s), and_zero_l m, xor_zero_l 0)
 
 -- a column of eight numbers, where those that would follow are zero
 column_of : (f : ℕ → ℕ) → ((i : ℕ) → 8 ≤ i → f i ≡ 0) → (p : ℕ) → entry (unpack (map f (below 8))) p ≡ bit (f (p / 64)) (p % 64)
-column_of f past p = entry_word (map f (below 8)) p ∙ ap (λ z. bit z (p % 64)) (elim (dec_lt (p / 64) 8) [
+column_of f past p = entry_word (map f (below 8)) p (length-map (below 8) f ∙ length_from 0 8) ∙ ap (λ z. bit z (p % 64)) (elim (dec_lt (p / 64) 8) [
   | yes l ↦ value_at f 8 (p / 64) 0 l
   | no l ↦ get_or-eq_default (map f (below 8)) 0 {n = p / 64} (omega (arith, length-map (below 8) f, length_from 0 8)) ∙ sym (past (p / 64) (omega arith))
 ])
 
 -- a step's columns from the bits of the numbers
-from_bits : (k : ℕ) (x : List ℕ) (p : ℕ) (b : Bool) → b ≡ xor (bit (get_or x (p / 64) 0) (p % 64)) (low_bit k p && bit (get_or x ((p + 2 ^ k) / 64) 0) ((p + 2 ^ k) % 64))
+from_bits : (k : ℕ) (x : List ℕ) → length x ≡ 8 → (p : ℕ) (b : Bool) → b ≡ xor (bit (get_or x (p / 64) 0) (p % 64)) (low_bit k p && bit (get_or x ((p + 2 ^ k) / 64) 0) ((p + 2 ^ k) % 64))
     → b ≡ xor (entry (unpack x) p) (low_bit k p && entry (unpack x) (p + 2 ^ k))
-from_bits k x p b e = e ∙ ap₂ (λ y z. xor y (low_bit k p && z)) (sym (entry_word x p)) (sym (entry_word x (p + 2 ^ k)))
+from_bits k x l p b e = e ∙ ap₂ (λ y z. xor y (low_bit k p && z)) (sym (entry_word x p l)) (sym (entry_word x (p + 2 ^ k) l))
 
 -- for each of six variables the places where it is 0
 abbrev pub low_places : List ℕ
@@ -117,13 +117,13 @@ module _ (k : ℕ) (few : k < 6) (x : List ℕ) (long : length x ≡ 8) where
   abbrev mask : ℕ
   mask = get_or low_places k 0
 
-  -- the numbers after it
+  -- what becomes of a number
   abbrev folded : ℕ → ℕ
-  folded i = fold_of (2 ^ k) mask (get_or x i 0)
+  folded = fold_of (2 ^ k) mask
 
   -- a step inside numbers
-  pub in_words : Stepped k (entry (unpack x)) (entry (unpack (map folded (below 8))))
-  in_words p = from_bits k x p _ (column_of folded past p ∙ bit_fold (2 ^ k) mask w j ∙ ap (xor (bit w j)) (go (low_bit k j) refl (masks_right k few j (omega arith))))
+  pub in_words : Stepped k (entry (unpack x)) (entry (unpack (map folded x)))
+  in_words p = from_bits k x long p _ (column ∙ bit_fold (2 ^ k) mask w j ∙ ap (xor (bit w j)) (go (low_bit k j) refl (masks_right k few j (omega arith))))
     where
       j : ℕ
       j = p % 64
@@ -131,8 +131,10 @@ module _ (k : ℕ) (few : k < 6) (x : List ℕ) (long : length x ≡ 8) where
       w : ℕ
       w = get_or x (p / 64) 0
 
-      past : (i : ℕ) → 8 ≤ i → folded i ≡ 0
-      past i l = ap (fold_of (2 ^ k) mask) (get_or-eq_default x 0 {n = i} (omega arith)) ∙ fold_zero (2 ^ k) mask
+      column : entry (unpack (map folded x)) p ≡ bit (folded w) j
+      column =
+          entry_word (map folded x) p (length-map x folded ∙ long)
+          ∙ ap (λ z. bit z j) (ap (get_or (map folded x) (p / 64)) (sym (fold_zero (2 ^ k) mask)) ∙ get_or-map folded x (p / 64) 0)
 
       go : (z : Bool) → low_bit k j ≡ z → place_right z (bit mask j) (ltb (2 ^ k + j) 64) ≡ true
           → (bit w (2 ^ k + j) && bit mask j) ≡ (low_bit k p && bit (get_or x ((p + 2 ^ k) / 64) 0) ((p + 2 ^ k) % 64))
@@ -167,7 +169,7 @@ module _ (k : ℕ) (past-six : 6 ≤ k) (x : List ℕ) (long : length x ≡ 8) w
   pub between_words : Stepped k (entry (unpack x)) (entry (unpack (map joined (below 8))))
   unfolding low_bit partner_of
   between_words p =
-      from_bits k x p _
+      from_bits k x long p _
       (column_of joined past p
       ∙ bit_xor_lem (get_or x i 0) (partner_of x half i) j
       ∙ ap (xor (bit (get_or x i 0) j)) (bit_if (eqb (i / half % 2) 0) (get_or x (i + half) 0) j ∙ rw (low, high, place)))

@@ -10,13 +10,14 @@ use Prim.Native.Nat.{ℕ, ◌≤◌}
 use native.Mathlib.Omega.{arith}
 use lib.Dec.{ltb, leb}
 use lib.ListN.{length}
-use borrow.Author.Tests.{ltb-false, leb-false, le-ltb, lt-leb, le-leb}
+use borrow.Author.Tests.{ltb-false, leb-false}
 use Rattle.refusal.specs.declared.Refusal.TheVariants.{NumberForm}
 use Rattle.refusal.specs.Outcome.{Outcome, refused}
 use Rattle.refusal.proofs.Outcomes.{not_both}
 use Rattle.varint.specs.Varint.{second_group, groups, varint}
 use Rattle.varint.specs.NumberFault.{NumberFault, ends_before, ends_inside, second_byte}
 use Rattle.varint.proofs.Draws.{after_refused}
+use Rattle.varint.proofs.Groups.{varint_none, varint_cut, varint_second}
 
 -- two numbers by which an outcome is refused
 same_number : {A : Type 0} {j k : ℕ} → ◌≡◌ {A = Outcome A} (refused j) (refused k) → j ≡ k
@@ -43,11 +44,9 @@ number_fault (x ∷ s) {k} e = go (ltb x 128) refl e
 
 -- what has a fault is refused by its number: of a number
 pub fault_number : {s : List ℕ} {k : ℕ} → NumberFault s k → varint s ≡ refused k
-unfolding varint groups second_group
-fault_number ends_before = refl
-fault_number (ends_inside x h) = rw (le-ltb x 128 h)
-fault_number (second_byte x y s h (inl l)) = rw (le-ltb x 128 h, lt-leb 1 y l)
-fault_number (second_byte x y s h (inr l)) = rw (le-ltb x 128 h, le-leb 1 y (omega arith), le-ltb y 128 l)
+fault_number ends_before = varint_none
+fault_number (ends_inside x h) = varint_cut x h
+fault_number (second_byte x y s h l) = varint_second x y s h l
 
 -- a number that ends too early has at most one byte
 pub number_cut : {s : List ℕ} {k : ℕ} → NumberFault s k → k ≡ 2 → length s ≤ 1

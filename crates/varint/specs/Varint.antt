@@ -7,12 +7,12 @@
 --   shortest one v     the bytes of the number v in one group, or in two
 --   encode_varint v    the bytes of the number v, below 2 to the power 14
 --   outcome_of s r     what the code's answer r says of the bytes s of a file
-use Rattle.std.specs.Prelude.{List, [], ◌∷◌, ℕ, ◌<◌, ◌+◌, ◌-◌, ◌*◌, ◌/◌, ◌%◌, Bool, true, false, leb, ltb, drop}
+use Rattle.std.specs.Prelude.{List, [], ◌∷◌, ℕ, ◌<◌, ◌+◌, ◌-◌, ◌*◌, ◌/◌, ◌%◌, Bool, true, false, leb, ltb, drop, Result, Ok, Err}
+use Rattle.refusal.specs.declared.Refusal.{Refusal}
 use Rattle.refusal.specs.declared.Refusal.TheVariants.{FileEnds, NumberForm}
 use Rattle.refusal.specs.Refusal.{number_of}
 use Rattle.refusal.specs.Outcome.{Outcome, refused, accepted, ◌otherwise◌, checked}
 use Rattle.varint.specs.declared.Varint.{Varint}
-use Rattle.varint.specs.declared.Varint.TheVariants.{Value, Refused}
 use Rattle.varint.specs.Drawn.{Drawn, ◌leaving◌}
 
 -- each number is a byte
@@ -46,6 +46,6 @@ unfoldable pub encode_varint : ℕ → List ℕ
 encode_varint v = shortest (ltb v 128) v
 
 -- what the code's answer says: the place after the number stands for the bytes from there on
-abbrev pub outcome_of : List ℕ → Varint → Outcome (Drawn ℕ)
-outcome_of s (Value v next) = accepted (v leaving drop next s)
-outcome_of s (Refused r) = refused (number_of r)
+abbrev pub outcome_of : List ℕ → Result Varint Refusal → Outcome (Drawn ℕ)
+outcome_of s (Ok x) = accepted (x.value leaving drop x.next s)
+outcome_of s (Err r) = refused (number_of r)

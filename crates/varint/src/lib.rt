@@ -2,67 +2,64 @@
 // numbers: docs/SPECIFICATION.md, 'Terms' and 'Filter file'.
 #![tactic(auto)]
 
-ghost use Rattle.std.specs.Prelude.{◌≡◌, ◌+◌, ◌≤◌, ◌<◌, length, drop};
+ghost use Rattle.std.specs.Prelude.{◌≡◌, ◌+◌, ◌≤◌, ◌<◌, [], ◌∷◌, length, drop, IfOk, IfErr};
 ghost use Rattle.buffer.specs.Appends.{Appends};
+ghost use Rattle.refusal.specs.declared.Refusal.TheVariants.{FileEnds};
 ghost use Rattle.varint.specs.Varint.{varint, encode_varint, outcome_of};
 
+use buffer::append;
 use refusal::Refusal;
 
-// What stands at a place of a file: a number, with the place after it, or why there is none.
-#[derive(Clone, Copy)]
-pub enum Varint {
-    Value { value: usize, next: usize },
-    Refused(Refusal),
+// A number of a file, and the place after it.
+#[derive(Clone, Copy, Debug, PartialEq, Eq)]
+pub struct Varint {
+    pub value: usize,
+    pub next: usize,
 }
 
-// A byte as a number of the widest type.
-fn wide(x: u8) -> usize
-    ensures { (result ≡ x) × (result < 256) }
+// The byte at the place `at` of a file, unless the file ends before it.
+fn byte_at(file: &[u8], at: usize) -> Result<u8, Refusal>
+    ensures byte { IfOk result (λ x. drop at file.now ≡ x ∷ drop (at + 1) file.now) }
+    ensures end { IfErr result (λ r. (drop at file.now ≡ []) × (r ≡ FileEnds)) }
 {
-    x as usize
+    file.get(at).copied().ok_or(Refusal::FileEnds)
 }
 
-// The number at the place `at` of a file.
-pub fn varint_at(file: &[u8], at: usize) -> Varint
+// The number at the place `at` of a file, or why there is none.
+#[tactic(auto, using(crate::proofs::Groups::by_groups))]
+pub fn varint_at(file: &[u8], at: usize) -> Result<Varint, Refusal>
     ensures { outcome_of file.now result ≡ varint (drop at file.now) }
 {
-    if file.len() <= at {
-        return Varint::Refused(Refusal::FileEnds);
-    }
-    let first = wide(file[at]);
+    let first = usize::from(byte_at(file, at)?);
     if first < 128 {
-        return Varint::Value {
+        return Ok(Varint {
             value: first,
             next: at + 1,
-        };
+        });
     }
-    if file.len() <= at + 1 {
-        return Varint::Refused(Refusal::FileEnds);
+    let second = usize::from(byte_at(file, at + 1)?);
+    if second < 1 || second > 127 {
+        return Err(Refusal::NumberForm);
     }
-    let second = wide(file[at + 1]);
-    if second < 1 {
-        return Varint::Refused(Refusal::NumberForm);
-    }
-    if second > 127 {
-        return Varint::Refused(Refusal::NumberForm);
-    }
-    Varint::Value {
+    Ok(Varint {
         value: first - 128 + 128 * second,
         next: at + 2,
-    }
+    })
 }
 
 // A number below 2 to the power 14 is written from place `at` on; the result is the place behind it. It is `pub` for the
 // crates that write lists and files.
+#[tactic(auto, using(crate::proofs::Varints::varint_short, crate::proofs::Varints::varint_long))]
 pub fn append_varint(output: &mut [u8], at: usize, value: usize) -> usize
     requires { (value < 16384) × (at + length (encode_varint value) ≤ length output.old) }
     ensures { Appends (encode_varint value) output.old output.new at result }
 {
     if value < 128 {
-        output[at] = value as u8;
-        return at + 1;
+        return append(output, at, &[value as u8]);
     }
-    output[at] = (128 + value % 128) as u8;
-    output[at + 1] = (value / 128) as u8;
-    at + 2
+    append(
+        output,
+        at,
+        &[(128 + value % 128) as u8, (value / 128) as u8],
+    )
 }

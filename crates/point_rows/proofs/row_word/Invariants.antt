@@ -1,6 +1,7 @@
+-- The bits of w are the columns from place i of the 64 on.
 use mathlib.Core.Path.{◌≡◌}
 use mathlib.Core.List.{List}
-use Prim.Native.Nat.{ℕ, ◌+◌, ◌-◌, ◌≤◌}
+use Prim.Native.Nat.{ℕ, ◌+◌, ◌-◌}
 use lib.ListN.{take, drop}
 use Rattle.gf2.specs.Vector.{Row}
 use Rattle.packed.specs.Packed.{number}
@@ -12,7 +13,4 @@ abbrev pub part : List ℕ → ℕ → ℕ → ℕ → Row
 part xs from a i = monomials (take (64 - i) (drop (from + i) xs)) a
 
 abbrev pub invariant-loop-i : goal.invariant-loop-i
-invariant-loop-i l = (l.i ≤ 64) × (l.w ≡ number (part l.exponents l.from l.a.0 l.i))
-
-abbrev pub decreases-loop-i : goal.decreases-loop-i
-decreases-loop-i l = l.i
+invariant-loop-i l = l.w ≡ number (part l.exponents l.from l.a.0 l.i)

@@ -1,12 +1,8 @@
-use mathlib.Core.Path.{◌≡◌}
-use Prim.Native.Nat.{◌-◌, ◌≤◌}
-use lib.ListN.{length}
-use Rattle.cube.specs.NumberLists.{below, select}
-use Rattle.cube.specs.Mask.{member}
+-- The bytes so far that are 1 are counted.
+use Rattle.std.proofs.Common.{◌≡◌, take}
+use lib.Dec.{eqb}
+use Rattle.std.specs.List.{count_by}
 use Rattle.cube.proofs.mask.count.Given as goal
 
-abbrev pub invariant-loop-i : goal.invariant-loop-i
-invariant-loop-i l = (l.i ≤ length l.mask) × (l.number ≤ l.i) × (l.number ≡ length (select (member l.mask) (below l.i)))
-
-abbrev pub decreases-loop-i : goal.decreases-loop-i
-decreases-loop-i l = length l.mask - l.i
+abbrev pub invariant-loop-byte : goal.invariant-loop-byte
+invariant-loop-byte l = l.number ≡ count_by (λ x. eqb x 1) (take l.byte-index l.mask)

@@ -1,33 +1,22 @@
--- The loop's invariant: the largest byte is `most` or one from i on.
+-- The fold keeps the larger of what it has and the next byte (fold_largest).
 use mathlib.Core.Path.{◌≡◌}
-use mathlib.Core.List.{List}
-use Prim.Native.Nat.{ℕ, ◌+◌, ◌<◌, max}
-use native.Mathlib.Numerals.{add-one}
+use mathlib.Core.List.{List, [], ◌∷◌}
+use Prim.Native.Nat.{ℕ, max}
 use native.Mathlib.Omega.{arith}
-use lib.ListN.{length, get_or, drop}
-use lib.Seq.{drop-cons, drop-length}
+use Rattle.std.proofs.Common.{rules}
+use Rattle.std.specs.List.{fold}
+use Rattle.std.proofs.lemmas.Iterator.{YieldsList-from_slice}
+use Rattle.std.proofs.lemmas.Iterator.Consumers.{fold_from_yields_List}
 use Rattle.cube.specs.NumberLists.{largest}
 use Rattle.cube.proofs.mask.largest.Goals as goal
-use Rattle.cube.proofs.mask.largest.Goals.{else-bytes-i, then-bytes-i}
 
--- the largest from byte i on is that byte or one after it
-step : (b : List ℕ) (i : ℕ) → i < length b → largest (λ x. x) (drop i b) ≡ max (get_or b i 0) (largest (λ x. x) (drop (i + 1) b))
+-- a fold from any number on
+fold_largest : (a : ℕ) (b : List ℕ) → fold max a b ≡ max a (largest (λ x. x) b)
 unfolding largest
-step b i h = rw (drop-cons b i 0 h, add-one)
-
--- from the end on there is none
-none : (b : List ℕ) (i : ℕ) → i ≡ length b → largest (λ x. x) (drop i b) ≡ 0
-unfolding largest
-none b i e = rw (e, drop-length)
-
-pub loop-i-init : goal.loop-i-init
-loop-i-init c = (omega arith, omega arith)
-
-pub loop-i-preserved : goal.loop-i-preserved
-loop-i-preserved c =
-    let s = step c.args.bytes.now c.loop-i.i (omega arith) in
-    (omega arith, elim c.if-bytes-i.branch [ then-bytes-i w ↦ omega (arith, w.most-is, w.if-bytes-i, s) | else-bytes-i w ↦ omega (arith, w.most-is, w.if-bytes-i, s) ])
+fold_largest a [] = omega arith
+fold_largest a (x ∷ b) = omega (arith, fold_largest (max a x) b)
 
 pub returns : goal.returns
 returns c =
-    omega (arith, none c.args.bytes.now c.loop-i.i (omega arith))
+    let ran = fold_from_yields_List _ max 0 c.fold.result c.fold.ensures.ran (YieldsList-from_slice c.args.bytes.now (cc)) (λ a x b q k. search rules) in
+    omega (arith, ran, fold_largest 0 c.args.bytes.now)

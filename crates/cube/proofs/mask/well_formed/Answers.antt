@@ -1,22 +1,19 @@
--- The test of a mask is that of the largest byte of its points and of the largest past them (by-largest).
+-- The test of a mask is that of the largest byte of its points and of the largest past them (split_formed).
 use borrow.Author.Tests.{le-leb, lt-leb, ne_eqb}
 use mathlib.Core.Path.{◌≡◌, refl, sym, ap, ◌∙◌}
-use mathlib.Core.Bool.{◌&&◌, and-true, and_assoc}
+use mathlib.Core.Bool.{◌&&◌, and_assoc}
 use mathlib.Core.List.{List, [], ◌∷◌}
-use Prim.Native.Nat.{ℕ, zero, suc, ◌-◌, ◌^◌, ◌<◌, ◌≤◌, max}
+use Prim.Native.Nat.{ℕ, zero, suc, ◌^◌, ◌<◌, ◌≤◌, max, min}
 use native.Mathlib.Decide.{dec_lt}
 use native.Mathlib.Omega.{arith}
-use lib.ListN.{length, take, drop, length-drop, drop_of_length-le}
+use lib.ListN.{length, take, drop, drop_of_length-le}
 use lib.Dec.{eqb, leb}
 use lib.Pow.{pow_mono}
-use lib.Seq.{take_all, length-take-le}
+use lib.Seq.{take_all}
 use Rattle.cube.specs.NumberLists.{largest}
 use Rattle.cube.specs.Mask.{bits_then_zeros}
 use Rattle.cube.proofs.mask.well_formed.Goals as goal
-use Rattle.cube.proofs.mask.well_formed.Goals.{After-largest-2}
-
-pub slice_bounds-largest-end : goal.slice_bounds-largest-end
-slice_bounds-largest-end c = sym (length-take-le _ _ (omega arith))
+use Rattle.cube.proofs.mask.well_formed.Goals.{After-largest-zeros}
 
 -- two numbers are at most 1 just if the larger is
 max-bit : (x y : ℕ) → (leb x 1 && leb y 1) ≡ leb (max x y) 1
@@ -45,36 +42,33 @@ by-largest (suc m) (x ∷ b) =
     let z = eqb (largest (λ x. x) (drop m b)) 0 in
     ap (λ y. leb x 1 && y) (by-largest m b) ∙ sym (and_assoc (leb x 1) _ z) ∙ ap (λ y. y && z) (max-bit x (largest (λ x. x) (take m b)))
 
--- bytes that are all those of points
-all_points : (m : ℕ) (b : List ℕ) → length b ≤ m → bits_then_zeros m b ≡ leb (largest (λ x. x) b) 1
-unfolding largest
-all_points m b h = by-largest m b ∙ rw (take_all m b h, drop_of_length-le b h) (and-true (leb (largest (λ x. x) b) 1))
+-- where there are no more bytes than points, those from the end on are none
+whole : (m k : ℕ) (b : List ℕ) → length b ≤ m → k ≡ length b → bits_then_zeros m b ≡ (leb (largest (λ x. x) (take k b)) 1 && eqb (largest (λ x. x) (drop k b)) 0)
+whole m k b h e =
+    let past : drop m b ≡ [] = drop_of_length-le b h in
+    let behind : drop k b ≡ [] = drop_of_length-le b (omega arith) in
+    by-largest m b ∙ rw (take_all m b h, past, take_all k b (omega arith), behind)
 
--- the answer of `size` is at most the number of points, and is it where it is not the largest number
-at_most : (n : ℕ) {p : ℕ} → (n < 64 → p ≡ 2 ^ n) × (64 ≤ n → p ≡ 18446744073709551615) → (p ≤ 2 ^ n) × (p < 18446744073709551615 → p ≡ 2 ^ n)
-at_most n h = elim (dec_lt n 64) [
-  | yes g ↦ (omega (arith, h.0 g), λ l. h.0 g)
-  | no g ↦ let e = h.1 (omega arith) in (omega (arith, e, pow_mono {i = 64} {j = n} (omega arith)), λ l. absurd (omega (arith, e)))
+-- the bytes are split at the number of points, as `size` answers it, or at their end
+split_formed : (n p : ℕ) (b : List ℕ) → (n < 64 → p ≡ 2 ^ n) × (64 ≤ n → p ≡ 18446744073709551615)
+    → length b ≤ 18446744073709551615 → bits_then_zeros (2 ^ n) b ≡ (leb (largest (λ x. x) (take (min p (length b)) b)) 1 && eqb (largest (λ x. x) (drop (min p (length b)) b)) 0)
+split_formed n p b s h = elim (dec_lt n 64) [
+  | yes g ↦ elim (dec_lt p (length b)) [
+    | yes l ↦ let e : min p (length b) ≡ 2 ^ n = omega (arith, s.0 g) in rw e (by-largest (2 ^ n) b)
+    | no l ↦ whole (2 ^ n) _ b (omega (arith, s.0 g)) (omega arith)
+  ]
+  | no g ↦ whole (2 ^ n) _ b (omega (arith, pow_mono {i = 64} {j = n} (omega arith))) (omega (arith, s.1 (omega arith)))
 ]
 
-pub returns-then-mask-points : goal.returns-then-mask-points
-returns-then-mask-points c =
-    let a = c.args in
-    ap (λ r. leb r 1) c.largest.ensures ∙ sym (all_points (2 ^ a.n) a.mask.now (omega (arith, (at_most a.n c.size-points.ensures).0)))
+-- both tests together
+both : (c : After-largest-zeros) →
+    bits_then_zeros (2 ^ c.args.n) c.args.mask.now ≡ (leb c.largest-bits.result 1 && eqb c.largest-zeros.result 0)
+both c =
+    rw (c.largest-bits.ensures, c.largest-zeros.ensures, c.split_at.ensures.front, c.split_at.ensures.back, c.min.ensures)
+    (split_formed c.args.n c.size.result c.args.mask.now c.size.ensures (omega arith))
 
--- more bytes than points: the test of the others is left
-others : (c : After-largest-2) →
-    let a = c.args in
-    bits_then_zeros (2 ^ a.n) a.mask.now ≡ (leb c.largest-2.result 1 && eqb (largest (λ x. x) (drop c.size-points.result a.mask.now)) 0)
-others c =
-    let a = c.args in
-    rw (← (at_most a.n c.size-points.ensures).1 (omega arith), c.largest-2.ensures) (by-largest c.size-points.result a.mask.now)
+pub returns-then-bits : goal.returns-then-bits
+returns-then-bits c = sym (both (goal.at.returns-then-bits c).After-largest-zeros ∙ rw (le-leb c.largest-bits.result 1 c.if-bits.true))
 
-pub returns-then-largest-gt1 : goal.returns-then-largest-gt1
-returns-then-largest-gt1 c = sym (others (goal.at.returns-then-largest-gt1 c).After-largest-2 ∙ rw (lt-leb c.largest-2.result 1 (omega arith)))
-
-pub returns : goal.returns
-returns c =
-    let b = c.args.mask.now in
-    let all = take_all (length b - c.size-points.result) (drop c.size-points.result b) (omega (arith, length-drop c.size-points.result b)) in
-    ap (λ r. eqb r 0) (c.largest-3.ensures ∙ ap (largest (λ x. x)) all) ∙ sym (others (goal.at.returns c).After-largest-2 ∙ rw (le-leb c.largest-2.result 1 (omega arith)))
+pub returns-else-bits : goal.returns-else-bits
+returns-else-bits c = sym (both (goal.at.returns-else-bits c).After-largest-zeros ∙ rw (lt-leb c.largest-bits.result 1 c.if-bits.false))

@@ -1,24 +1,21 @@
--- The loop's invariant: sum is that of the first i numbers (sum_more adds one), and at most i * 262144, so no addition overflows.
-use mathlib.Core.Path.{◌≡◌, ap, ◌∙◌}
+use mathlib.Core.Path.{sym, ◌∙◌}
+use Prim.Native.Nat.{◌^◌}
+use Rattle.std.proofs.lemmas.Iterator.{YieldsList-from_slice}
+use Rattle.std.proofs.lemmas.Iterator.Consumers.{sum_from_yields_List, fits_from_yields_list}
 use native.Mathlib.Omega.{arith}
-use Rattle.gf2.specs.Prefix.{sum_to}
-use Rattle.packed.proofs.Tally.{sum_more}
+use lib.ListN.{take}
+use Rattle.packed.proofs.Tally.{sum_to_is, sum_few}
 use Rattle.packed.proofs.basis.sum_below.Goals as goal
 
-pub loop-i-init : goal.loop-i-init
-unfolding sum_to
-loop-i-init c = (omega arith, omega arith, omega arith)
-
-pub overflow_add-sum : goal.overflow_add-sum
-overflow_add-sum c =
-    omega (arith, c.requires.2 c.loop-i.i)
-
-pub loop-i-preserved : goal.loop-i-preserved
-loop-i-preserved c =
-    let i = c.loop-i.i in
-    (omega arith, omega (arith, sum_more i c.args.tally.now (omega arith)), omega (arith, c.requires.2 i))
+pub sum-requires-clause-fits : goal.sum-requires-clause-fits
+sum-requires-clause-fits c =
+    let k = c.args.columns in
+    let tally = c.args.tally.now in
+    fits_from_yields_list c.iter.result (2 ^ 32) (YieldsList-from_slice (take k tally) cc) (omega (arith, sum_to_is k tally, sum_few k 262144 tally c.requires.1))
 
 pub returns : goal.returns
 returns c =
-    let e : c.loop-i.i ≡ c.args.columns = omega arith in
-    (c.loop-i.invariant.1 ∙ ap (λ k. sum_to k c.args.tally.now) e, omega arith)
+    let k = c.args.columns in
+    let tally = c.args.tally.now in
+    let total = sum_from_yields_List c.iter.result c.sum.result c.sum.ensures.ran (YieldsList-from_slice (take k tally) cc) ∙ sym (sum_to_is k tally) in
+    (total, omega (arith, total, sum_few k 262144 tally c.requires.1))

@@ -1,71 +1,38 @@
--- The loop's invariant: the pivot of the row is 64 * k plus that of what is left of the row from number k on, as the numbers passed are zero.
-use mathlib.Core.Path.{◌≡◌, sym, ap, ap₂, ◌∙◌}
-use mathlib.Core.List.{List, ◌++◌}
-use Prim.Native.Nat.{ℕ, suc, ◌+◌, ◌-◌, ◌*◌, ◌^◌, ◌<◌}
+use mathlib.Core.Path.{◌≡◌}
+use Prim.Native.Nat.{ℕ, ◌<◌}
+use Rattle.std.proofs.Common.{Some, None, rules, tests, w64}
+use Rattle.std.proofs.lemmas.Iterator.{YieldsList-from_slice, IsFirst-from_position}
+use Rattle.std.proofs.lemmas.Nat.Bits.{bit_at-trailing_zeros}
+use Rattle.std.specs.List.{AllWithin, HoldsAt}
+use Rattle.std.specs.Option.{MatchOption}
+use lib.ListN.{length, get_or}
 use native.Mathlib.Omega.{arith}
-use native.Mathlib.Nat.{zero-add}
-use lib.ListN.{length, get_or, take, drop}
-use lib.Seq.{drop-cons}
-use lib.Count.{count_trailing_zeros, trailing_le}
-use Rattle.gf2.specs.Elimination.{pivot}
-use Rattle.packed.specs.Packed.{bits_of, unpack}
-use Rattle.packed.proofs.Words.{pivot_word, pivot_zeros}
-use Rattle.packed.proofs.Rows.{row_at}
-use Rattle.packed.proofs.row.pivot.Invariants.{rest}
+use Rattle.packed.proofs.ZeroRows.{zero_numbers, some_number}
+use Rattle.packed.proofs.Words.{pivot_columns}
 use Rattle.packed.proofs.row.pivot.Goals as goal
+use Rattle.packed.proofs.row.pivot.Goals.{After-position}
 
-module _ (ws : List ℕ) (row k : ℕ) (l : length ws ≡ 8192) (h : row < 1024) (g : k < 8) where
-  -- its first number, and what is left
-  split : rest ws row k ≡ bits_of 64 (get_or ws (row * 8 + k) 0) ++ rest ws row (k + 1)
-  unfolding unpack
-  split =
-      let e : 8 - k ≡ suc (8 - (k + 1)) = omega arith in
-      let f : suc (row * 8 + k) ≡ row * 8 + (k + 1) = omega arith in
-      ap₂ (λ (n : ℕ) (r : List ℕ). unpack (take n r)) e (drop-cons ws (row * 8 + k) 0 (omega arith))
-      ∙ ap (λ (n : ℕ). bits_of 64 (get_or ws (row * 8 + k) 0) ++ unpack (take (8 - (k + 1)) (drop n ws))) f
+-- the first number with a one
+first : (c : After-position)
+    → MatchOption c.position.result (AllWithin (λ w. w ≡ 0) c.args.row.now 0 (length c.args.row.now))
+    (λ k. (k < length c.args.row.now) × HoldsAt (λ w. 0 < w) c.args.row.now k × AllWithin (λ w. w ≡ 0) c.args.row.now 0 k)
+first c =
+    IsFirst-from_position c.position.new.self _ c.position.result (λ w. 0 < w) (λ w. w ≡ 0) c.position.ensures.ran
+    (YieldsList-from_slice c.args.row.now cc) (λ x q k. search (rules, tests)) (λ x q k. search (rules, tests))
 
-  -- a number that is zero is passed
-  passed : get_or ws (row * 8 + k) 0 ≡ 0 → pivot (rest ws row k) ≡ 64 + pivot (rest ws row (k + 1))
-  passed e = ap pivot (split ∙ ap (λ (w : ℕ). bits_of 64 w ++ rest ws row (k + 1)) e) ∙ pivot_zeros 64 (rest ws row (k + 1))
-
-  -- a number with a one has the first one
-  found : 0 < get_or ws (row * 8 + k) 0 → get_or ws (row * 8 + k) 0 < 2 ^ 64 → pivot (rest ws row k) ≡ count_trailing_zeros 64 (get_or ws (row * 8 + k) 0)
-  found p q = ap pivot split ∙ pivot_word 64 (get_or ws (row * 8 + k) 0) (rest ws row (k + 1)) p q
-
--- at the end nothing is left
-none : (ws : List ℕ) (row k : ℕ) → k ≡ 8 → pivot (rest ws row k) ≡ 0
-unfolding unpack pivot
-none ws row k e = ap (λ (n : ℕ). pivot (unpack (take (8 - n) (drop (row * 8 + k) ws)))) e
-
-pub loop-k-init : goal.loop-k-init
-loop-k-init c =
-    let ws = c.args.ws.now in
-    let row = c.args.row in
-    let e : row * 8 ≡ row * 8 + 0 = omega arith in
-    (omega arith, ap pivot (row_at 1024 ws row c.requires.1 ∙ ap (λ (n : ℕ). unpack (take 8 (drop n ws))) e) ∙ sym (zero-add _))
-
-pub overflow_cast-result : goal.overflow_cast-result
-overflow_cast-result c =
-    omega (arith, trailing_le 64 (get_or c.args.ws.now (c.args.row * 8 + c.loop-k.k) 0))
-
-pub overflow_add-result : goal.overflow_add-result
-overflow_add-result c =
-    omega (arith, trailing_le 64 (get_or c.args.ws.now (c.args.row * 8 + c.loop-k.k) 0))
-
-pub returns-then-w-ne0 : goal.returns-then-w-ne0
-returns-then-w-ne0 c =
-    let w = get_or c.args.ws.now (c.args.row * 8 + c.loop-k.k) 0 in
-    let p : 0 < w = omega arith in
-    let q : w < 2 ^ 64 = omega (arith, c.type_inv.ws (c.args.row * 8 + c.loop-k.k)) in
-    let e = found c.args.ws.now c.args.row c.loop-k.k c.requires.0 c.requires.1 (omega arith) p q in
-    omega (arith, e)
-
-pub loop-k-preserved : goal.loop-k-preserved
-loop-k-preserved c =
-    let e = passed c.args.ws.now c.args.row c.loop-k.k c.requires.0 c.requires.1 (omega arith) c.if-w-ne0.false in
-    (omega arith, omega (arith, e))
+pub returns-in_err-k : goal.returns-in_err-k
+returns-in_err-k c =
+    let found : c.position.result ≡ None = c.in_err-k.was in
+    let none = rw found at (first (goal.at.returns-in_err-k c).After-position) in
+    rw c.from_residual.ensures (zero_numbers 8 (λ k. get_or c.args.row.now k 0) (λ k h. none k 0 (omega arith) (omega arith)))
 
 pub returns : goal.returns
 returns c =
-    let e = none c.args.ws.now c.args.row c.loop-k.k (omega arith) in
-    omega (arith, e)
+    let k = c.in_ok-k.k in
+    let found : c.position.result ≡ Some k = c.in_ok-k.was in
+    let (h, one, zero) = rw found at (first (goal.at.returns c).After-position) in
+    let u = λ (j : ℕ). get_or c.args.row.now j 0 in (
+      pivot_columns 8 u k (omega arith) (λ j l. zero j 0 (omega arith) l) (one 0) (c.fits-row k),
+      omega (arith, (bit_at-trailing_zeros w64 (u k) (one 0) (c.fits-row k)).0),
+      some_number 8 u k (omega arith) (one 0) c.fits-row,
+    )

@@ -1,7 +1,6 @@
-use mathlib.Core.Path.{◌≡◌}
 use mathlib.Core.List.{List}
-use Prim.Native.Nat.{ℕ, ◌≤◌}
-use lib.ListN.{length, take, drop}
+use Prim.Native.Nat.{ℕ}
+use lib.ListN.{take, drop}
 use Rattle.gf2.specs.Vector.{Row, Same}
 use Rattle.gf2.specs.Steps.{row_of}
 use Rattle.gf2.specs.Solve.{solve_last}
@@ -13,7 +12,4 @@ abbrev pub from : List Row → ℕ → ℕ → Row
 from t kept j = solve_last (drop j (take kept t)) (row_of t kept)
 
 abbrev pub invariant-loop-j : goal.invariant-loop-j
-invariant-loop-j l = (l.j ≤ l.kept) × (length l.x ≡ 8) × Same (unpack l.x) (from (unpacked l.ws) l.kept l.j)
-
-abbrev pub decreases-loop-j : goal.decreases-loop-j
-decreases-loop-j l = l.j
+invariant-loop-j l = Same (unpack l.x) (from (unpacked l.ws) l.kept l.j)

@@ -1,0 +1,7 @@
+use native.Mathlib.Omega.{arith}
+use Rattle.std.proofs.lemmas.List.{map-set}
+use Rattle.packed.proofs.Rows.{row_at}
+use Rattle.packed.proofs.workspace.copy_columns.Goals as goal
+
+pub returns : goal.returns
+returns c = simp (map-set, row_at c.args.ws.now c.args.from (omega arith), c.cut.ensures)
