@@ -1,3 +1,3 @@
 -- Laws of the reader of files.
-pub mod Decisions
-pub mod NumbersDrawn
+pub mod Draws
+pub mod Numbers

@@ -1,3 +1,3 @@
 -- What one reader draws from a file.
-pub mod OpenList
 pub mod Progress
+pub mod Reader

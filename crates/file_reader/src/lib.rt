@@ -3,6 +3,4 @@
 // the file alone.
 #![tactic(auto)]
 
-mod list; // list.rt: what a drawn number makes of a list of points
-pub mod progress; // progress.rt: how far a file is read
 pub mod reader; // reader.rt: the one reader, which draws them all

@@ -1,15 +1,16 @@
-// The reader: one walks a file from its first byte, and every number is drawn from it.
-// `draw` takes it apart and calls the reader of numbers on slice and place, and `past` hands it back moved. What a number
-// says is decided by functions on plain values. `draw_all`, whose parameters are plain, serves every other caller.
-ghost use Rattle.std.specs.Prelude.{◌≡◌, true, length, drop};
-ghost use Rattle.refusal.specs.Outcome.{accepted};
-ghost use Rattle.cube.specs.Cube.{taps};
-ghost use Rattle.varint.specs.Varint.{varint, outcome_of as drawn_of};
-ghost use Rattle.file_reader.specs.Progress.{reading_of, taps_of, list_after, outcome_of, beside, Tapped, numbers};
+// The reader: one walks a file from its first byte, and every number is drawn from it by `draw`, which moves it past that
+// number. After a refusal no number is drawn.
+ghost use Rattle.std.specs.Prelude.{◌≡◌, true, ◌≤◌, ◌<◌, IfOk};
+ghost use Rattle.cube.specs.Cube.{taps, size as size_of};
+ghost use Rattle.varint.specs.Varint.{varint};
+ghost use Rattle.point_list.specs.PointList.{point_list, mark_drawn};
+ghost use Rattle.file_reader.specs.Progress.{taps_of, beside, outcome_of, numbers};
+ghost use Rattle.file_reader.specs.Reader.{left, drawn_of, marked_of, DrawsPoint};
 
-use crate::list::{count_of, point_of};
-use crate::progress::{Progress, Reading, taps_of};
-use varint::{Varint, varint_at};
+use cube::mask::Mask;
+use cube::{size, valid_taps};
+use refusal::Refusal;
+use varint::varint_at;
 
 // The bytes of a file, and the place of the next number.
 #[derive(Clone, Copy)]
@@ -27,68 +28,83 @@ impl<'a> Reader<'a> {
     }
 
     // Draws the next number.
-    pub fn draw(self) -> Varint
-        ensures { drawn_of self.entry.src.now result ≡ varint (drop self.entry.at self.entry.src.now) }
+    pub fn draw(&mut self) -> Result<usize, Refusal>
+        ensures src { self.new.src ≡ self.old.src }
+        ensures drawn { drawn_of self.new result ≡ varint (left self.old) }
     {
-        varint_at(self.src, self.at)
+        let number = varint_at(self.src, self.at)?;
+        self.at = number.next;
+        Ok(number.value)
     }
 
     // Draws n.
-    pub fn draw_taps(self) -> Progress
-        ensures { outcome_of self.entry.src.now result ≡ taps_of (drop self.entry.at self.entry.src.now) }
+    #[tactic(auto, using(crate::proofs::Draws::by_number))]
+    pub fn draw_taps(&mut self) -> Result<usize, Refusal>
+        ensures src { self.new.src ≡ self.old.src }
+        ensures drawn { drawn_of self.new result ≡ taps_of (left self.old) }
+        ensures taps { IfOk result (λ n. taps n ≡ true) }
     {
-        taps_of(self.draw())
+        let n = self.draw()?;
+        if !valid_taps(n) {
+            return Err(Refusal::Taps);
+        }
+        Ok(n)
     }
 
-    // Draws a list of points, and sets each in `out`, if nothing before it is refused.
-    pub fn draw_list(self, before: Progress, out: &mut [u8]) -> Progress
-        requires { (length out.old ≡ 512) × Tapped before.reading }
-        ensures { beside out.new (outcome_of self.entry.src.now result)
-            ≡ list_after (reading_of before.reading) out.old (drop self.entry.at self.entry.src.now) }
+    // Draws a point below `size`: `prev` and a difference of at least `least`.
+    #[tactic(auto, using(crate::proofs::Draws::by_number))]
+    fn draw_point(&mut self, size: usize, prev: usize, least: usize) -> Result<usize, Refusal>
+        requires { prev ≤ size }
+        ensures src { self.new.src ≡ self.old.src }
+        ensures drawn { DrawsPoint size prev least (left self.old) (drawn_of self.new result) }
+        ensures below { IfOk result (λ p. p < size) }
     {
-        let reading = before.reading;
-        match reading {
-            Reading::Refused(_) => before,
-            Reading::Accepted(n) => self.draw_points(n, out),
+        let difference = self.draw()?;
+        if difference < least || difference >= size - prev {
+            return Err(Refusal::Range);
         }
+        Ok(prev + difference)
     }
 
-    // Draws a list of points after n: its count, then point by point.
-    fn draw_points(self, n: usize, out: &mut [u8]) -> Progress
-        requires { (length out.old ≡ 512) × (taps n ≡ true) }
-        ensures { beside out.new (outcome_of self.entry.src.now result)
-            ≡ list_after (accepted n) out.old (drop self.entry.at self.entry.src.now) }
+    // Draws a list of points of `n` taps, and sets each in `out`.
+    #[tactic(auto, using(crate::proofs::Draws::by_number))]
+    pub fn draw_list(&mut self, n: usize, out: &mut Mask) -> Result<(), Refusal>
+        requires { taps n ≡ true }
+        ensures src { self.new.src ≡ self.old.src }
+        ensures drawn { marked_of self.new out.new result ≡ mark_drawn out.old (point_list (size_of n) (left self.old)) }
     {
-        let mut list = count_of(n, self.draw());
-        let mut reader = self.past(list.progress);
-        while list.left > 0 {
-            list = point_of(list, reader.draw(), out);
-            reader = reader.past(list.progress);
+        let size = size(n);
+        let count = self.draw()?;
+        if count > size {
+            return Err(Refusal::Range);
         }
-        list.progress
-    }
-
-    // The reader, moved past what it has drawn.
-    pub fn past(self, drawn: Progress) -> Reader<'a>
-        ensures { (result.src ≡ self.entry.src) × (result.at ≡ drawn.next) }
-    {
-        Reader {
-            src: self.src,
-            at: drawn.next,
+        let mut prev = 0;
+        let mut least = 0;
+        for _ in 0..count {
+            prev = self.draw_point(size, prev, least)?;
+            least = 1;
+            out[prev] = 1;
         }
+        Ok(())
     }
 }
 
+// What the numbers of a file say: n, and the place behind them.
+#[derive(Clone, Copy, Debug, PartialEq, Eq)]
+pub struct Progress {
+    pub n: usize,
+    pub next: usize,
+}
+
 // Draws every number of a file, each completely before the next: n, the list of S, the list of f.
-pub fn draw_all(file: &[u8], set: &mut [u8], table: &mut [u8]) -> Progress
-    requires { (length set.old ≡ 512) × (length table.old ≡ 512) }
+#[tactic(auto, using(crate::proofs::Numbers::in_order))]
+pub fn draw_all(file: &[u8], set: &mut Mask, table: &mut Mask) -> Result<Progress, Refusal>
     ensures { beside table.new (beside set.new (outcome_of file.now result))
         ≡ numbers set.old table.old file.now }
 {
-    let reader = Reader::new(file);
-    let taps = reader.draw_taps();
-    let reader = reader.past(taps);
-    let points = reader.draw_list(taps, set);
-    let reader = reader.past(points);
-    reader.draw_list(points, table)
+    let mut reader = Reader::new(file);
+    let n = reader.draw_taps()?;
+    reader.draw_list(n, set)?;
+    reader.draw_list(n, table)?;
+    Ok(Progress { n, next: reader.at })
 }

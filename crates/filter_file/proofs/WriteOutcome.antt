@@ -13,10 +13,10 @@ use native.Mathlib.Decide.{dec_lt}
 use lib.Dec.{leb}
 use lib.ListN.{length}
 use borrow.Author.Tests.{eq-eqb, leb-true, le-leb, lt-leb}
+use Rattle.std.specs.Prelude.{Ok, Err}
 use Rattle.refusal.specs.Refusal.{number_of}
 use Rattle.refusal.specs.Outcome.{refused, accepted, checked}
 use Rattle.refusal.specs.declared.Refusal.{Refusal}
-use Rattle.refusal.specs.declared.verdict.Verdict.TheVariants.{Passed, Refused}
 use Rattle.refusal.specs.Verdict.{verdict}
 use Rattle.refusal.proofs.Outcomes.{not_both}
 use Rattle.refusal.proofs.Verdicts.{all_append, checked_append, verdict_refuses, passed_all, all_passed, accepted_passes, refused_either, refused_among}
@@ -28,7 +28,7 @@ use Rattle.filter_file.proofs.WriteAnswers.{write_passed, room_decides}
 
 module _ (n : ℕ) (s f : List ℕ) where
   -- the checks of a filter pass
-  pub inputs_pass : Filter n s f → verdict (write_inputs s f n) ≡ Passed
+  pub inputs_pass : Filter n s f → verdict (write_inputs s f n) ≡ Ok tt
   inputs_pass h =
       all_passed (write_inputs s f n) (eq-eqb (length s) 512 h.set_long, (eq-eqb (length f) 512 h.table_long, (h.tapped, passes n s f h)))
 
@@ -48,12 +48,12 @@ module _ (n : ℕ) (s f : List ℕ) where
   write_accepts m h l = room_decides n s f m (inputs_pass h) ∙ rw (le-leb (length (file_of n s f)) m l)
 
   -- the checks of the inputs never refuse by 13
-  other_numbers : {x : Refusal} → verdict (write_inputs s f n) ≡ Refused x → number_of x ≢ 13
+  other_numbers : {x : Refusal} → verdict (write_inputs s f n) ≡ Err x → number_of x ≢ 13
   other_numbers {x} e same = let low = leb-true (number_of x) 12 (refused_among (λ y. leb (number_of y) 12) (write_inputs s f n) refl e) in omega arith
 
   -- a refusal: a check of the inputs is broken, or they pass and the output is shorter than the file
   refused_how : (m k : ℕ) → write_outcome s f n m ≡ refused k
-      → ((x : Refusal) × (verdict (write_inputs s f n) ≡ Refused x) × (number_of x ≡ k)) ⊎ ((verdict (write_inputs s f n) ≡ Passed) × (k ≡ 13) × (m < length (file_of n s f)))
+      → ((x : Refusal) × (verdict (write_inputs s f n) ≡ Err x) × (number_of x ≡ k)) ⊎ ((verdict (write_inputs s f n) ≡ Ok tt) × (k ≡ 13) × (m < length (file_of n s f)))
   unfolding write_outcome
   refused_how m k e =
       elim (refused_either (write_inputs s f n) _ k (sym (checked_append (write_inputs s f n) (room_for (length (file_of n s f)) m) _) ∙ e)) [

@@ -4,17 +4,14 @@
 --   write_inputs s f n            the checks of the set s, the table f and n
 --   room_for k m                  13: an output of m bytes has room for a file of k bytes
 --   write_outcome s f n m         what Write writes, lent an output of m bytes: the first refusal, or the file
---   outcome_of r                  the number, or the length, of the code's answer r
 --   WriteContract o r out₀ out₁   the contract of Write: the answer r and the output, at entry and at exit, are those of the outcome o
 --   WriteAccepts n s f m file     Write, lent an output of m bytes, accepts n taps, the set s and the table f, and writes the file
-use Rattle.std.specs.Prelude.{◌≡◌, List, [], ◌∷◌, ◌++◌, ℕ, leb, length, drop}
+use Rattle.std.specs.Prelude.{◌≡◌, List, [], ◌∷◌, ◌++◌, ℕ, leb, length, drop, Result}
+use Rattle.refusal.specs.declared.Refusal.{Refusal}
 use Rattle.refusal.specs.declared.Refusal.TheVariants.{ShortOutput}
-use Rattle.refusal.specs.Refusal.{number_of}
-use Rattle.refusal.specs.Outcome.{Outcome, refused, accepted, Check, ◌otherwise◌, checked, mapped, left_by}
+use Rattle.refusal.specs.Outcome.{Outcome, accepted, Check, ◌otherwise◌, checked, mapped, left_by, outcome_of}
 use Rattle.cube.specs.Mask.{points}
 use Rattle.filter.specs.Checks.{taps_of, filter_lengths, filter_masks}
-use Rattle.filter_file.specs.declared.write.WriteAnswer.{WriteAnswer}
-use Rattle.filter_file.specs.declared.write.WriteAnswer.TheVariants.{Accepted, Refused}
 use Rattle.filter_file.specs.File.{Contents, encode}
 
 -- n, the points of the set, and the points where the table is 1
@@ -37,13 +34,8 @@ room_for k m = leb k m otherwise ShortOutput ∷ []
 unfoldable pub write_outcome : List ℕ → List ℕ → ℕ → ℕ → Outcome (List ℕ)
 write_outcome s f n m = checked (write_inputs s f n ++ room_for (length (file_of n s f)) m) (accepted (file_of n s f))
 
--- the number and the value of an answer
-abbrev pub outcome_of : WriteAnswer → Outcome ℕ
-outcome_of (Accepted k) = accepted k
-outcome_of (Refused x) = refused (number_of x)
-
 -- the answer is the length alone; the output's first bytes are the file and the rest is as at entry, or all of it is as at entry
-pub record WriteContract (o : Outcome (List ℕ)) (r : WriteAnswer) (out₀ out₁ : List ℕ) : Type 0 where
+pub record WriteContract (o : Outcome (List ℕ)) (r : Result ℕ Refusal) (out₀ out₁ : List ℕ) : Type 0 where
   pub answer : outcome_of r ≡ mapped length o
   pub output : out₁ ≡ left_by o out₀ (λ file. file ++ drop (length file) out₀)
 

@@ -3,14 +3,14 @@
 --   FirstUpTo t n d    d is the first degree up to n that passes t
 --   first_degree       a degree is given as first exactly when it is the first
 --   first_none         none is given exactly when none passes
---   first_last         where none below n passes, n is given, or counts for none
 --   first_or           the first that passes one of two tests is the smaller of the firsts
 --   smaller_counted    where one exists, the smaller is found by counting n for none
 use mathlib.Core.Path.{◌≡◌, refl, sym, ap, ◌∙◌}
 use mathlib.Core.Logic.{◌↔◌, inl, inr}
-use mathlib.Core.Bool.{Bool, true, false, ◌||◌, false≢true}
+use mathlib.Core.Bool.{Bool, true, false, cond, ◌||◌, false≢true}
 use mathlib.Core.List.{List, [], ◌∷◌, Memᴰ}
-use mathlib.Core.Option.{Option, none, some, get_or}
+use Rattle.std.specs.Prelude.{Option, None, Some, unwrap_or}
+use Rattle.std.specs.List.{find}
 use Prim.Native.Nat.{ℕ, ◌+◌, ◌≤◌, ◌<◌, min}
 use native.Mathlib.Omega.{arith}
 use native.Mathlib.Decide.{dec_lt}
@@ -19,7 +19,6 @@ use Rattle.cube.proofs.Masks.{member_from}
 use Rattle.gf2.specs.Points.{Rising}
 use Rattle.gf2.proofs.Each.{each_member}
 use Rattle.matrix.proofs.Rising.{below_rising}
-use Rattle.immunity.specs.First.{first_if, first}
 use Rattle.immunity.specs.FirstDegree.{smaller}
 use Rattle.immunity.proofs.First.{First, Says, first_says, first_found, first_is, first_passes}
 
@@ -35,10 +34,10 @@ pub record FirstUpTo (t : ℕ → Bool) (n d : ℕ) : Type 0 where
 
 module _ (t : ℕ → Bool) (n : ℕ) where
   -- what is given as first is the first
-  is_first : (d : ℕ) → first t (below (n + 1)) ≡ some d → FirstUpTo t n d
+  is_first : (d : ℕ) → find t (below (n + 1)) ≡ Some d → FirstUpTo t n d
   is_first d e = go (first_is t (below (n + 1)) (below_rising (n + 1)) d e)
     where
-      go : First t (below (n + 1)) (some d) → FirstUpTo t n d
+      go : First t (below (n + 1)) (Some d) → FirstUpTo t n d
       go r =
           let same : d ≡ r.place = cc r.is in
           let up : r.place ≤ n = (degree_below n r.place).0 r.member in
@@ -49,75 +48,67 @@ module _ (t : ℕ → Bool) (n : ℕ) where
           }
 
   -- the first is given
-  is_given : (d : ℕ) → FirstUpTo t n d → first t (below (n + 1)) ≡ some d
+  is_given : (d : ℕ) → FirstUpTo t n d → find t (below (n + 1)) ≡ Some d
   is_given d h = go (first_found t (below (n + 1)) (below_rising (n + 1)) d ((degree_below n d).1 h.within) h.passes)
     where
-      go : First t (below (n + 1)) (first t (below (n + 1))) → first t (below (n + 1)) ≡ some d
+      go : First t (below (n + 1)) (find t (below (n + 1))) → find t (below (n + 1)) ≡ Some d
       go r = elim (dec_lt d r.place) [
         | yes l ↦ absurd (false≢true (sym (r.before d ((degree_below n d).1 h.within) l) ∙ h.passes))
         | no l ↦ elim (dec_lt r.place d) [
           | yes m ↦ absurd (false≢true (sym (h.before r.place m) ∙ r.passes))
-          | no m ↦ let e : r.place ≡ d = omega arith in r.is ∙ ap some e
+          | no m ↦ let e : r.place ≡ d = omega arith in r.is ∙ ap Some e
         ]
       ]
 
   -- a degree is given as first exactly when it is the first
-  pub first_degree : (d : ℕ) → (first t (below (n + 1)) ≡ some d) ↔ FirstUpTo t n d
+  pub first_degree : (d : ℕ) → (find t (below (n + 1)) ≡ Some d) ↔ FirstUpTo t n d
   first_degree d = (is_first d, is_given d)
 
   -- none is given exactly when none passes
-  pub first_none : (first t (below (n + 1)) ≡ none) ↔ ((d : ℕ) → d ≤ n → t d ≡ false)
+  pub first_none : (find t (below (n + 1)) ≡ None) ↔ ((d : ℕ) → d ≤ n → t d ≡ false)
   first_none = (to (first_says t (below (n + 1)) (below_rising (n + 1))), back (first_says t (below (n + 1)) (below_rising (n + 1))))
     where
-      to : Says t (below (n + 1)) (first t (below (n + 1))) → first t (below (n + 1)) ≡ none → (d : ℕ) → d ≤ n → t d ≡ false
+      to : Says t (below (n + 1)) (find t (below (n + 1))) → find t (below (n + 1)) ≡ None → (d : ℕ) → d ≤ n → t d ≡ false
       to (inl h) e d l = each_member (λ i. t i ≡ false) h.1 ((degree_below n d).1 l)
-      to (inr r) e d l = let q : none ≡ some r.place = sym e ∙ r.is in let z : ◌≡◌ {A = ℕ} 0 1 = cc in absurd (omega arith)
+      to (inr r) e d l = let q : None ≡ Some r.place = sym e ∙ r.is in let z : ◌≡◌ {A = ℕ} 0 1 = cc in absurd (omega arith)
 
-      back : Says t (below (n + 1)) (first t (below (n + 1))) → ((d : ℕ) → d ≤ n → t d ≡ false) → first t (below (n + 1)) ≡ none
+      back : Says t (below (n + 1)) (find t (below (n + 1))) → ((d : ℕ) → d ≤ n → t d ≡ false) → find t (below (n + 1)) ≡ None
       back (inl h) f = h.0
       back (inr r) f = absurd (false≢true (sym (f r.place ((degree_below n r.place).0 r.member)) ∙ r.passes))
 
-  -- where none below n passes, n is given, or counts for none
-  pub first_last : ((d : ℕ) → d < n → t d ≡ false) → get_or (first t (below (n + 1))) n ≡ n
-  first_last h = go (t n) refl
-    where
-      go : (b : Bool) → t n ≡ b → get_or (first t (below (n + 1))) n ≡ n
-      go true e = ap (λ x. get_or x n) (is_given n (record { within = omega arith; passes = e; before = h }))
-      go false e = ap (λ x. get_or x n) (first_none.1 (λ d l. elim (dec_lt d n) [ yes i ↦ h d i | no i ↦ (let q : d ≡ n = omega arith in ap t q ∙ e) ]))
-
 -- a number less than each that exists is the smaller
-smaller_left : (x : ℕ) (y : Option ℕ) → ((z : ℕ) → y ≡ some z → x < z) → some x ≡ smaller (some x) y
+smaller_left : (x : ℕ) (y : Option ℕ) → ((z : ℕ) → y ≡ Some z → x < z) → Some x ≡ smaller (Some x) y
 unfolding smaller
-smaller_left x none h = refl
-smaller_left x (some z) h = let l : x < z = h z refl in let e : x ≡ min x z = omega arith in ap some e
+smaller_left x None h = refl
+smaller_left x (Some z) h = let l : x < z = h z refl in let e : x ≡ min x z = omega arith in ap Some e
 
 -- the same with the number on the right
-smaller_right : (x : ℕ) (y : Option ℕ) → ((z : ℕ) → y ≡ some z → x < z) → some x ≡ smaller y (some x)
+smaller_right : (x : ℕ) (y : Option ℕ) → ((z : ℕ) → y ≡ Some z → x < z) → Some x ≡ smaller y (Some x)
 unfolding smaller
-smaller_right x none h = refl
-smaller_right x (some z) h = let l : x < z = h z refl in let e : x ≡ min z x = omega arith in ap some e
+smaller_right x None h = refl
+smaller_right x (Some z) h = let l : x < z = h z refl in let e : x ≡ min z x = omega arith in ap Some e
 
 -- the first that passes one of two tests is the smaller of the firsts
-pub first_or : (t r : ℕ → Bool) (xs : List ℕ) → Rising xs → first (λ i. t i || r i) xs ≡ smaller (first t xs) (first r xs)
-unfolding first first_if smaller
+pub first_or : (t r : ℕ → Bool) (xs : List ℕ) → Rising xs → find (λ i. t i || r i) xs ≡ smaller (find t xs) (find r xs)
+unfolding smaller
 first_or t r [] h = refl
 first_or t r (x ∷ xs) h = go (t x) (r x) (first_or t r xs h.1)
   where
-    later : (v : ℕ → Bool) (z : ℕ) → first v xs ≡ some z → x < z
+    later : (v : ℕ → Bool) (z : ℕ) → find v xs ≡ Some z → x < z
     later v z e = each_member (λ y. x < y) h.0 (first_passes v xs z e).0
 
-    go : (a b : Bool) → first (λ i. t i || r i) xs ≡ smaller (first t xs) (first r xs)
-        → first_if (a || b) x (first (λ i. t i || r i) xs) ≡ smaller (first_if a x (first t xs)) (first_if b x (first r xs))
-    go true true e = let q : x ≡ min x x = omega arith in ap some q
-    go true false e = smaller_left x (first r xs) (later r)
-    go false true e = smaller_right x (first t xs) (later t)
+    go : (a b : Bool) → find (λ i. t i || r i) xs ≡ smaller (find t xs) (find r xs)
+        → cond (a || b) (Some x) (find (λ i. t i || r i) xs) ≡ smaller (cond a (Some x) (find t xs)) (cond b (Some x) (find r xs))
+    go true true e = let q : x ≡ min x x = omega arith in ap Some q
+    go true false e = smaller_left x (find r xs) (later r)
+    go false true e = smaller_right x (find t xs) (later t)
     go false false e = e
 
 -- where one exists, the smaller is found by counting n, which neither exceeds, for none
-pub smaller_counted : (n : ℕ) (x y : Option ℕ) → get_or x n ≤ n → get_or y n ≤ n → (k : ℕ) → smaller x y ≡ some k
-    → min (get_or x n) (get_or y n) ≡ k
+pub smaller_counted : (n : ℕ) (x y : Option ℕ) → unwrap_or x n ≤ n → unwrap_or y n ≤ n → (k : ℕ) → smaller x y ≡ Some k
+    → min (unwrap_or x n) (unwrap_or y n) ≡ k
 unfolding smaller
-smaller_counted n none none l m k e = let z : ◌≡◌ {A = ℕ} 0 1 = cc in absurd (omega arith)
-smaller_counted n none (some b) l m k e = let q : b ≡ k = cc in omega arith
-smaller_counted n (some a) none l m k e = let q : a ≡ k = cc in omega arith
-smaller_counted n (some a) (some b) l m k e = let q : min a b ≡ k = cc in omega arith
+smaller_counted n None None l m k e = let z : ◌≡◌ {A = ℕ} 0 1 = cc in absurd (omega arith)
+smaller_counted n None (Some b) l m k e = let q : b ≡ k = cc in omega arith
+smaller_counted n (Some a) None l m k e = let q : a ≡ k = cc in omega arith
+smaller_counted n (Some a) (Some b) l m k e = let q : min a b ≡ k = cc in omega arith

@@ -8,7 +8,7 @@ use mathlib.Core.Path.{◌≡◌, refl}
 use mathlib.Core.Logic.{◌↔◌}
 use mathlib.Core.Bool.{Bool, true, false}
 use mathlib.Core.List.{List}
-use mathlib.Core.Option.{Option, none, some}
+use Rattle.std.specs.Prelude.{Option, None, Some}
 use Prim.Native.Nat.{ℕ, ◌+◌, ◌*◌, ◌/◌, ◌≤◌, ◌<◌}
 use native.Mathlib.Omega.{arith}
 use native.Mathlib.Decide.{dec_lt}
@@ -37,7 +37,7 @@ module _ (o : List ℕ) (n : ℕ) (s : List ℕ) where
   test d = twice_exceeds (rank_of o n d (points s)) (length (points s))
 
   -- the mark is the first degree up to n at which it does
-  pub mark_first : (m : ℕ) → (mark_of o n s ≡ some m)
+  pub mark_first : (m : ℕ) → (mark_of o n s ≡ Some m)
       ↔ ((m ≤ n) × (length (points s) < 2 * rank_of o n m (points s)) × ((d : ℕ) → d < m → 2 * rank_of o n d (points s) ≤ length (points s)))
   unfolding mark_of
   mark_first m = (
@@ -47,13 +47,13 @@ module _ (o : List ℕ) (n : ℕ) (s : List ℕ) where
 
 module _ {o : List ℕ} (g : Graded o) {n : ℕ} (small : n ≤ 9) (s : List ℕ) where
   -- a set with a point has a mark: at degree n its rank is its number of points
-  pub mark_exists : Inside (size n) (points s) → is_empty (points s) ≡ false → (m : ℕ) × (mark_of o n s ≡ some m)
+  pub mark_exists : Inside (size n) (points s) → is_empty (points s) ≡ false → (m : ℕ) × (mark_of o n s ≡ Some m)
   unfolding mark_of
   mark_exists inside has = go (mark_of o n s) refl
     where
-      go : (x : Option ℕ) → mark_of o n s ≡ x → (m : ℕ) × (mark_of o n s ≡ some m)
-      go (some m) e = (m, e)
-      go none e = absurd (omega (
+      go : (x : Option ℕ) → mark_of o n s ≡ x → (m : ℕ) × (mark_of o n s ≡ Some m)
+      go (Some m) e = (m, e)
+      go None e = absurd (omega (
         arith,
         ltb-false (length (points s)) (2 * rank_of o n n (points s)) ((first_none (test o n s) n).0 e n (omega arith)),
         rank_full g small s inside,
@@ -61,7 +61,7 @@ module _ {o : List ℕ} (g : Graded o) {n : ℕ} (small : n ≤ 9) (s : List ℕ
       ))
 
   -- on all points it is n / 2 rounded up: the rank at d is the number of columns, which is over half of the points just if n ≤ 2 d
-  pub mark_all : points s ≡ below (size n) → mark_of o n s ≡ some ((n + 1) / 2)
+  pub mark_all : points s ≡ below (size n) → mark_of o n s ≡ Some ((n + 1) / 2)
   mark_all all = (mark_first o n s ((n + 1) / 2)).1 (omega arith, over, under)
     where
       half : (d : ℕ) → (length (points s) < 2 * rank_of o n d (points s)) ↔ (n ≤ 2 * d)
@@ -79,7 +79,7 @@ module _ (o : List ℕ) (n : ℕ) (s f : List ℕ) (formed : well_formed n f ≡
   equal_most d one zero = omega (arith, one, zero, rank_fewer o n d (part 1 s f), rank_fewer o n d (part 0 s f), parts_length n s f formed)
 
   -- the reported degree is at most the mark
-  pub reported_mark : (k m : ℕ) → FirstDiffers o n s f k → mark_of o n s ≡ some m → k ≤ m
+  pub reported_mark : (k m : ℕ) → FirstDiffers o n s f k → mark_of o n s ≡ Some m → k ≤ m
   reported_mark k m r is = elim (dec_lt m k) [
     | yes l ↦ absurd (omega (arith, ((mark_first o n s m).0 is).1, equal_most m (r.before 1 m (omega arith) l) (r.before 0 m (omega arith) l)))
     | no l ↦ omega arith

@@ -21,7 +21,8 @@ use mathlib.Core.Logic.{◌↔◌, inl, inr}
 use mathlib.Core.Bool.{Bool, true, false}
 use mathlib.Core.List.Memᴰ
 use mathlib.Core.List.{List, [], ◌∷◌, map}
-use mathlib.Core.Option.{none, some, none-ne-some}
+use Rattle.std.specs.Prelude.{None, Some}
+use Rattle.std.proofs.lemmas.Option.{none-some}
 use Prim.Native.Nat.{ℕ, zero, suc, ◌+◌, ◌*◌, ◌/◌, ◌%◌, ◌≤◌, zero-le}
 use native.Mathlib.Omega.{arith}
 use lib.Dec.{eqb, leb}
@@ -94,21 +95,21 @@ module _ (o : List ℕ) (n : ℕ) (s f : List ℕ) (empty : points s ≡ []) whe
   equal_at_all side d = ap (rank_of o n d) (empty ∙ sym (part_none side))
 
   -- no degree is reported
-  pub reported_none : reported o n s f ≡ none
+  pub reported_none : reported o n s f ≡ None
   unfolding reported
   reported_none = (first_none (either_differs o n s f) n).1 (λ d l. rw ((equal_differs o n s f d 1).1 (equal_at_all 1 d), (equal_differs o n s f d 0).1 (equal_at_all 0 d)))
 
   -- there is no side
-  pub no_side : side_at o n s f (reported o n s f) ≡ none
+  pub no_side : side_at o n s f (reported o n s f) ≡ None
   unfolding side_at
   no_side = ap (side_at o n s f) reported_none
 
   -- neither side has a degree of its own
-  pub side_degree_none : (side : ℕ) → side_degree o n s f side ≡ none
+  pub side_degree_none : (side : ℕ) → side_degree o n s f side ≡ None
   side_degree_none side = (side_equal o n s f side).1 (λ d l. equal_at_all side d)
 
   -- there is no mark
-  pub mark_none : mark_of o n s ≡ none
+  pub mark_none : mark_of o n s ≡ None
   unfolding mark_of eliminated take_points
   mark_none = (first_none (λ d. twice_exceeds (rank_of o n d (points s)) (length (points s))) n).1 (λ d l. ap (λ ss. twice_exceeds (rank_of o n d ss) (length ss)) empty)
 
@@ -143,34 +144,34 @@ module _ (o : List ℕ) (n : ℕ) (s f : List ℕ) (empty : points s ≡ []) whe
 
 module _ {o : List ℕ} (g : Graded o) (n : ℕ) (s f : List ℕ) (filter : Filter n s f) where
   -- a degree is reported exactly where the set has a point
-  pub reported_point : ((k : ℕ) × (reported o n s f ≡ some k)) ↔ HasPoint s
+  pub reported_point : ((k : ℕ) × (reported o n s f ≡ Some k)) ↔ HasPoint s
   reported_point = (
-    λ (k, e). elim (point_or_none s) [ inl h ↦ h | inr empty ↦ absurd (none-ne-some k (sym (reported_none o n s f empty) ∙ e)) ],
+    λ (k, e). elim (point_or_none s) [ inl h ↦ h | inr empty ↦ absurd (none-some k (sym (reported_none o n s f empty) ∙ e)) ],
     λ h. let (k, is, _) = filter_reports g n s f filter ((has_point_says s).1 h) in (k, is),
   )
 
   -- where none is reported it has none
-  pub none_empty : reported o n s f ≡ none → points s ≡ []
-  none_empty e = elim (point_or_none s) [ inl h ↦ (let (k, is) = reported_point.1 h in absurd (none-ne-some k (sym e ∙ is))) | inr empty ↦ empty ]
+  pub none_empty : reported o n s f ≡ None → points s ≡ []
+  none_empty e = elim (point_or_none s) [ inl h ↦ (let (k, is) = reported_point.1 h in absurd (none-some k (sym e ∙ is))) | inr empty ↦ empty ]
 
   -- there is a mark exactly there
-  pub mark_point : ((m : ℕ) × (mark_of o n s ≡ some m)) ↔ HasPoint s
+  pub mark_point : ((m : ℕ) × (mark_of o n s ≡ Some m)) ↔ HasPoint s
   mark_point = (
-    λ (m, e). elim (point_or_none s) [ inl h ↦ h | inr empty ↦ absurd (none-ne-some m (sym (mark_none o n s f empty) ∙ e)) ],
+    λ (m, e). elim (point_or_none s) [ inl h ↦ h | inr empty ↦ absurd (none-some m (sym (mark_none o n s f empty) ∙ e)) ],
     λ h. mark_exists g (few_taps n s f filter) s (points_inside n s filter.set_formed) ((has_point_says s).1 h),
   )
 
   -- some side has a degree of its own exactly there
-  pub own_point : ((side : ℕ) × (d : ℕ) × (side ≤ 1) × (side_degree o n s f side ≡ some d)) ↔ HasPoint s
+  pub own_point : ((side : ℕ) × (d : ℕ) × (side ≤ 1) × (side_degree o n s f side ≡ Some d)) ↔ HasPoint s
   own_point = (
-    λ (side, d, _, e). elim (point_or_none s) [ inl h ↦ h | inr empty ↦ absurd (none-ne-some d (sym (side_degree_none o n s f empty side) ∙ e)) ],
+    λ (side, d, _, e). elim (point_or_none s) [ inl h ↦ h | inr empty ↦ absurd (none-some d (sym (side_degree_none o n s f empty side) ∙ e)) ],
     λ h. let (k, is, r) = filter_reports g n s f filter ((has_point_says s).1 h) in let (side, l, e) = sides_one o n s f k r in (side, k, l, e),
   )
 
   -- there is a side exactly there
-  pub side_point : ((i : ℕ) × (side_at o n s f (reported o n s f) ≡ some i)) ↔ HasPoint s
+  pub side_point : ((i : ℕ) × (side_at o n s f (reported o n s f) ≡ Some i)) ↔ HasPoint s
   unfolding side_at
   side_point = (
-    λ (i, e). elim (point_or_none s) [ inl h ↦ h | inr empty ↦ absurd (none-ne-some i (sym (no_side o n s f empty) ∙ e)) ],
+    λ (i, e). elim (point_or_none s) [ inl h ↦ h | inr empty ↦ absurd (none-some i (sym (no_side o n s f empty) ∙ e)) ],
     λ h. let (k, is) = reported_point.1 h in (byte (differs o n s f k 1), ap (side_at o n s f) is),
   )

@@ -10,7 +10,7 @@
 use mathlib.Core.Path.{◌≡◌, refl, sym, ◌∙◌}
 use mathlib.Core.Bool.{Bool, true, false, ◌||◌, or-true, false≢true}
 use mathlib.Core.List.{List, Memᴰ}
-use mathlib.Core.Option.{some}
+use Rattle.std.specs.Prelude.{Some}
 use mathlib.Core.Logic.{◌↔◌, ◌⊎◌, inl, inr}
 use Prim.Native.Nat.{ℕ, zero, suc, ◌+◌, ◌≤◌, ◌<◌}
 use native.Mathlib.Omega.{arith}
@@ -91,7 +91,7 @@ module _ {o : List ℕ} (g : Graded o) {n : ℕ} (small : n ≤ 9) (s f : List �
       before side d m i = both_equal d (b d i) side m
 
   -- a degree that is reported is the first at which a side differs
-  pub reported_first : (k : ℕ) → reported o n s f ≡ some k → FirstDiffers o n s f k
+  pub reported_first : (k : ℕ) → reported o n s f ≡ Some k → FirstDiffers o n s f k
   unfolding reported
   reported_first k e = let r = (first_degree (either_differs o n s f) n k).0 e in first_reports k r.within r.before r.passes
 
@@ -115,7 +115,7 @@ module _ {o : List ℕ} (g : Graded o) {n : ℕ} (small : n ≤ 9) (s f : List �
         go false e = rw ((unequal_differs o n s f n 1).1 (outside_differs 1 e))
 
     -- a degree is reported, and is the first at which a side differs
-    pub reports : (k : ℕ) × (reported o n s f ≡ some k) × FirstDiffers o n s f k
+    pub reports : (k : ℕ) × (reported o n s f ≡ Some k) × FirstDiffers o n s f k
     unfolding reported
     reports =
         let r = first_found (either_differs o n s f) (below (n + 1)) (below_rising (n + 1)) n ((degree_below n n).1 (omega arith)) some_side in
@@ -123,5 +123,5 @@ module _ {o : List ℕ} (g : Graded o) {n : ℕ} (small : n ≤ 9) (s f : List �
 
 -- of a filter whose set has a point a degree is reported, and is that
 pub filter_reports : {o : List ℕ} → Graded o → (n : ℕ) (s f : List ℕ) → Filter n s f → is_empty (points s) ≡ false
-    → (k : ℕ) × (reported o n s f ≡ some k) × FirstDiffers o n s f k
+    → (k : ℕ) × (reported o n s f ≡ Some k) × FirstDiffers o n s f k
 filter_reports g n s f p has = let (a, point) = some_member (points s) has in reports g (few_taps n s f p) s f (points_inside n s p.set_formed) a point

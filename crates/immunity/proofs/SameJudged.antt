@@ -4,7 +4,8 @@
 use mathlib.Core.Path.{◌≡◌, refl, ap, ap₂, ◌∙◌, fun_ext}
 use mathlib.Core.Bool.{Bool, not, ◌||◌}
 use mathlib.Core.List.{List, map}
-use mathlib.Core.Option.{Option, none, some}
+use Rattle.std.specs.Prelude.{Option, None, Some}
+use Rattle.std.specs.List.{find}
 use Prim.Native.Nat.{ℕ, ◌+◌}
 use lib.Dec.{eqb, leb}
 use lib.ListN.{length}
@@ -15,7 +16,6 @@ use Rattle.filter.specs.Part.{part}
 use Rattle.matrix.specs.Matrix.{rank_of}
 use Rattle.immunity.specs.declared.Ranks.{Ranks}
 use Rattle.immunity.specs.Ranks.{ranks_if}
-use Rattle.immunity.specs.First.{first}
 use Rattle.immunity.specs.Mark.{twice_exceeds, mark_of}
 use Rattle.immunity.specs.Judgement.{differs, reported, side_degree, ranks_at, side_at, judged}
 use Rattle.immunity.specs.SameJudged.{SameJudged}
@@ -39,23 +39,23 @@ module _ {o q : List ℕ} {n : ℕ} {s f s' f' : List ℕ} (h : SameRanks o q n 
   -- the same reported degree
   same_degree : reported o n s f ≡ reported q n s' f'
   unfolding reported
-  same_degree = ap (λ (t : ℕ → Bool). first t (below (n + 1))) (fun_ext (λ d. ap₂ ◌||◌ (same_differs d 1) (same_differs d 0)))
+  same_degree = ap (λ (t : ℕ → Bool). find t (below (n + 1))) (fun_ext (λ d. ap₂ ◌||◌ (same_differs d 1) (same_differs d 0)))
 
   -- the same degree of each side
   same_own : (side : ℕ) → side_degree o n s f side ≡ side_degree q n s' f' side
   unfolding side_degree
-  same_own side = ap (λ (t : ℕ → Bool). first t (below (n + 1))) (fun_ext (λ d. same_differs d side))
+  same_own side = ap (λ (t : ℕ → Bool). find t (below (n + 1))) (fun_ext (λ d. same_differs d side))
 
   -- the same side
   same_side : (k : Option ℕ) → side_at o n s f k ≡ side_at q n s' f' k
   unfolding side_at
-  same_side none = refl
-  same_side (some k) = ap (λ b. some (byte b)) (same_differs k 1)
+  same_side None = refl
+  same_side (Some k) = ap (λ b. Some (byte b)) (same_differs k 1)
 
   -- the same mark
   same_mark : mark_of o n s ≡ mark_of q n s'
   unfolding mark_of
-  same_mark = ap (λ (t : ℕ → Bool). first t (below (n + 1))) (fun_ext (λ d. ap₂ twice_exceeds (h.set d) h.count))
+  same_mark = ap (λ (t : ℕ → Bool). find t (below (n + 1))) (fun_ext (λ d. ap₂ twice_exceeds (h.set d) h.count))
 
   -- the same ranks at a degree
   same_ranks : (d : ℕ) → ranks_at o n s f d ≡ ranks_at q n s' f' d

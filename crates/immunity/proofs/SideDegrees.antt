@@ -13,7 +13,8 @@ use mathlib.Core.Path.{◌≡◌, refl, sym, ap, ◌∙◌}
 use mathlib.Core.Logic.{◌↔◌, ◌≢◌, inl, inr}
 use mathlib.Core.Bool.{Bool, true, false}
 use mathlib.Core.List.{List, Memᴰ}
-use mathlib.Core.Option.{Option, none, some, none-ne-some, some-injective}
+use Rattle.std.specs.Prelude.{Option, None, Some}
+use Rattle.std.proofs.lemmas.Option.{none-some, same_Some}
 use Prim.Native.Nat.{ℕ, ◌+◌, ◌≤◌, ◌<◌}
 use native.Mathlib.Omega.{arith}
 use native.Mathlib.Decide.{dec_lt}
@@ -50,7 +51,7 @@ module _ (o : List ℕ) (n : ℕ) (s f : List ℕ) where
     test d = differs o n s f d side
 
     -- the first degree up to n at which the pair differs
-    pub side_first : (d : ℕ) → (side_degree o n s f side ≡ some d)
+    pub side_first : (d : ℕ) → (side_degree o n s f side ≡ Some d)
         ↔ ((d ≤ n) × (¬ EqualRanks o n s f side d) × ((e : ℕ) → e < d → EqualRanks o n s f side e))
     unfolding side_degree
     side_first d = (
@@ -59,7 +60,7 @@ module _ (o : List ℕ) (n : ℕ) (s f : List ℕ) where
     )
 
     -- none exactly when it differs at no degree up to n
-    pub side_equal : (side_degree o n s f side ≡ none) ↔ ((d : ℕ) → d ≤ n → EqualRanks o n s f side d)
+    pub side_equal : (side_degree o n s f side ≡ None) ↔ ((d : ℕ) → d ≤ n → EqualRanks o n s f side d)
     unfolding side_degree
     side_equal = (
       λ e d l. (equal_differs o n s f d side).0 ((first_none test n).0 e d l),
@@ -72,51 +73,51 @@ module _ (o : List ℕ) (n : ℕ) (s f : List ℕ) where
   sides_smaller = first_or (test 1) (test 0) (below (n + 1)) (below_rising (n + 1))
 
   -- some side's own is the reported one
-  pub sides_one : (k : ℕ) → FirstDiffers o n s f k → (side : ℕ) × (side ≤ 1) × (side_degree o n s f side ≡ some k)
+  pub sides_one : (k : ℕ) → FirstDiffers o n s f k → (side : ℕ) × (side ≤ 1) × (side_degree o n s f side ≡ Some k)
   sides_one k r = elim r.at [ inl h ↦ (1, omega arith, own 1 (omega arith) h) | inr h ↦ (0, omega arith, own 0 (omega arith) h) ]
     where
-      own : (side : ℕ) → side ≤ 1 → ¬ EqualRanks o n s f side k → side_degree o n s f side ≡ some k
+      own : (side : ℕ) → side ≤ 1 → ¬ EqualRanks o n s f side k → side_degree o n s f side ≡ Some k
       own side l h = (side_first side k).1 (r.within, h, λ d i. r.before side d l i)
 
   -- the side is at most 1
-  pub side_most : (x : Option ℕ) (i : ℕ) → side_at o n s f x ≡ some i → i ≤ 1
+  pub side_most : (x : Option ℕ) (i : ℕ) → side_at o n s f x ≡ Some i → i ≤ 1
   unfolding side_at
-  side_most none i e = absurd (none-ne-some i e)
-  side_most (some k) i e = bounded (differs o n s f k 1) (some-injective _ _ e)
+  side_most None i e = absurd (none-some i e)
+  side_most (Some k) i e = bounded (differs o n s f k 1) (same_Some _ _ e)
     where
       bounded : (b : Bool) → byte b ≡ i → i ≤ 1
       bounded true q = omega arith
       bounded false q = omega arith
 
   -- the side is 1 exactly when side 1 has a degree and it is the reported one
-  pub side_is_1 : ((k : ℕ) → reported o n s f ≡ some k → FirstDiffers o n s f k)
-      → (side_at o n s f (reported o n s f) ≡ some 1) ↔ ((d : ℕ) × (side_degree o n s f 1 ≡ some d) × (reported o n s f ≡ some d))
+  pub side_is_1 : ((k : ℕ) → reported o n s f ≡ Some k → FirstDiffers o n s f k)
+      → (side_at o n s f (reported o n s f) ≡ Some 1) ↔ ((d : ℕ) × (side_degree o n s f 1 ≡ Some d) × (reported o n s f ≡ Some d))
   unfolding side_at
   side_is_1 firsts = (
     λ e. go (reported o n s f) refl e,
-    λ (d, e, q). ap (side_at o n s f) q ∙ ap (λ b. some (byte b)) ((unequal_differs o n s f d 1).1 ((side_first 1 d).0 e).1),
+    λ (d, e, q). ap (side_at o n s f) q ∙ ap (λ b. Some (byte b)) ((unequal_differs o n s f d 1).1 ((side_first 1 d).0 e).1),
   )
     where
       byte_one : (b : Bool) → byte b ≡ 1 → b ≡ true
       byte_one true e = refl
       byte_one false e = absurd (omega arith)
 
-      go : (x : Option ℕ) → reported o n s f ≡ x → side_at o n s f x ≡ some 1 → (d : ℕ) × (side_degree o n s f 1 ≡ some d) × (reported o n s f ≡ some d)
-      go none is e = absurd (none-ne-some 1 e)
-      go (some k) is e =
+      go : (x : Option ℕ) → reported o n s f ≡ x → side_at o n s f x ≡ Some 1 → (d : ℕ) × (side_degree o n s f 1 ≡ Some d) × (reported o n s f ≡ Some d)
+      go None is e = absurd (none-some 1 e)
+      go (Some k) is e =
           let r = firsts k is in
-          (k, (side_first 1 k).1 (r.within, (unequal_differs o n s f k 1).0 (byte_one (test 1 k) (some-injective _ _ e)), λ d l. r.before 1 d (omega arith) l), is)
+          (k, (side_first 1 k).1 (r.within, (unequal_differs o n s f k 1).0 (byte_one (test 1 k) (same_Some _ _ e)), λ d l. r.before 1 d (omega arith) l), is)
 
 module _ {o : List ℕ} (g : Graded o) {n : ℕ} (small : n ≤ 9) (s f : List ℕ) (side : ℕ) where
   -- none exactly when the side has no annihilator
-  pub side_annihilates : (side_degree o n s f side ≡ none) ↔ ((p : Polynomial) → ¬ Annihilator n p (part side s f) (points s))
+  pub side_annihilates : (side_degree o n s f side ≡ None) ↔ ((p : Polynomial) → ¬ Annihilator n p (part side s f) (points s))
   side_annihilates = (
     λ e p. (equal_just g small s f side n).0 ((side_equal o n s f side).0 e n (omega arith)) p (up_to_all n p),
     λ h. (side_equal o n s f side).1 (λ d l. (equal_just g small s f side d).1 (λ p u. h p)),
   )
 
   -- a side's degree is the lowest degree of an annihilator
-  is_lowest : (d : ℕ) → side_degree o n s f side ≡ some d → LowestDegree n (part side s f) (points s) d
+  is_lowest : (d : ℕ) → side_degree o n s f side ≡ Some d → LowestDegree n (part side s f) (points s) d
   is_lowest d e = record {
     polynomial = w;
     annihilates = annihilates;
@@ -140,24 +141,24 @@ module _ {o : List ℕ} (g : Graded o) {n : ℕ} (small : n ≤ 9) (s f : List �
       least j p a u = elim (dec_lt j d) [ yes i ↦ absurd ((equal_just g small s f side j).0 (before j i) p u a) | no i ↦ omega arith ]
 
   -- a degree is the side's own exactly when it is the lowest of an annihilator
-  pub side_lowest : (d : ℕ) → (side_degree o n s f side ≡ some d) ↔ LowestDegree n (part side s f) (points s) d
+  pub side_lowest : (d : ℕ) → (side_degree o n s f side ≡ Some d) ↔ LowestDegree n (part side s f) (points s) d
   side_lowest d = (is_lowest d, λ r. go r (side_degree o n s f side) refl)
     where
-      go : LowestDegree n (part side s f) (points s) d → (x : Option ℕ) → side_degree o n s f side ≡ x → side_degree o n s f side ≡ some d
-      go r none e = absurd (side_annihilates.0 e r.polynomial r.annihilates)
-      go r (some j) e =
+      go : LowestDegree n (part side s f) (points s) d → (x : Option ℕ) → side_degree o n s f side ≡ x → side_degree o n s f side ≡ Some d
+      go r None e = absurd (side_annihilates.0 e r.polynomial r.annihilates)
+      go r (Some j) e =
           let q = is_lowest j e in
           let same : j ≡ d = omega (arith, r.least j q.polynomial q.annihilates q.has_degree, q.least d r.polynomial r.annihilates r.has_degree) in
-          e ∙ ap some same
+          e ∙ ap Some same
 
   -- none exactly when the part is all of the set
-  pub side_whole : Inside (size n) (points s) → (side_degree o n s f side ≡ none) ↔ (part side s f ≡ points s)
+  pub side_whole : Inside (size n) (points s) → (side_degree o n s f side ≡ None) ↔ (part side s f ≡ points s)
   side_whole inside = (
     λ e. select_all (λ a. eqb (get_or f a 0) side) (points s) (λ a m. go e a m (eqb (get_or f a 0) side) refl),
     λ e. (side_equal o n s f side).1 (λ d l. ap (rank_of o n d) (sym e)),
   )
     where
-      go : side_degree o n s f side ≡ none → (a : ℕ) → Memᴰ a (points s) → (b : Bool) → eqb (get_or f a 0) side ≡ b → eqb (get_or f a 0) side ≡ true
+      go : side_degree o n s f side ≡ None → (a : ℕ) → Memᴰ a (points s) → (b : Bool) → eqb (get_or f a 0) side ≡ b → eqb (get_or f a 0) side ≡ true
       go e a m true q = q
       go e a m false q = absurd (outside_differs g small s f inside a m side q ((side_equal o n s f side).0 e n (omega arith)))
 
@@ -168,7 +169,7 @@ one_value n a = monomial_value n 0 a (pow_pos n)
 
 -- where the part is all of the set the other side has degree 0: its part is empty, and the polynomial 1 is an annihilator
 pub side_other : {o : List ℕ} → Graded o → {n : ℕ} → n ≤ 9 → (s f : List ℕ) (side other : ℕ) → other ≢ side → part side s f ≡ points s
-    → (a : ℕ) → Memᴰ a (points s) → side_degree o n s f other ≡ some 0
+    → (a : ℕ) → Memᴰ a (points s) → side_degree o n s f other ≡ Some 0
 unfolding ones
 side_other g {n} small s f side other apart whole a point = (side_lowest g small s f other 0).1 (record {
   polynomial = eqb 0;

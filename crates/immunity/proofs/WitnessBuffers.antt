@@ -6,7 +6,7 @@
 use mathlib.Core.Path.{◌≡◌, sym, ap, ◌∙◌}
 use mathlib.Core.Bool.{false}
 use mathlib.Core.List.{List}
-use mathlib.Core.Option.{some}
+use Rattle.std.specs.Prelude.{Some}
 use Prim.Native.Nat.{ℕ, ◌≤◌}
 use native.Mathlib.Omega.{arith}
 use lib.Pow.{pow_mono}
@@ -33,7 +33,7 @@ module _ {o : List ℕ} (g : Graded o) {n : ℕ} (small : n ≤ 9) (s f : List �
 
   -- the polynomial in the buffer
   abbrev w : Polynomial
-  w = member (witness_bytes o n s f (some k) side)
+  w = member (witness_bytes o n s f (Some k) side)
 
   -- where the side differs it is the witness
   pub witness_given : ¬ EqualRanks o n s f side k → IsWitness o n k (points s) ps w
@@ -54,12 +54,12 @@ module _ {o : List ℕ} (g : Graded o) {n : ℕ} (small : n ≤ 9) (s f : List �
       annihilates = is_annihilator g small k (points s) ps is
 
   -- where the side does not differ the buffer is zero
-  pub witness_zeros : EqualRanks o n s f side k → witness_bytes o n s f (some k) side ≡ mask (λ u. false)
+  pub witness_zeros : EqualRanks o n s f side k → witness_bytes o n s f (Some k) side ≡ mask (λ u. false)
   unfolding witness_bytes
   witness_zeros e = simp (witness_zero g small k (points s) ps (points_rising s) (part_among side s f) e)
 
 -- the buffers hold the witnesses
-pub buffer_holds : (o : List ℕ) (n : ℕ) (s f : List ℕ) (side : ℕ) → side ≤ 1 → (k : ℕ) → reported o n s f ≡ some k
-    → of_side side (judged o n s f).witnesses ≡ witness_bytes o n s f (some k) side
+pub buffer_holds : (o : List ℕ) (n : ℕ) (s f : List ℕ) (side : ℕ) → side ≤ 1 → (k : ℕ) → reported o n s f ≡ Some k
+    → of_side side (judged o n s f).witnesses ≡ witness_bytes o n s f (Some k) side
 unfolding judged
 buffer_holds o n s f side l k e = of_both (witness_bytes o n s f (reported o n s f)) side l ∙ ap (λ x. witness_bytes o n s f x side) e

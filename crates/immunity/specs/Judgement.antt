@@ -14,8 +14,8 @@
 --   set_rank j d                the rank of the set at degree d that a judgement gives
 --   part_ranks j d              those of the parts, one for each side
 --   GivenEqual j side d         the two ranks that the judgement j gives for a side at degree d are equal
-use Rattle.std.specs.Prelude.{◌≡◌, Bool, false, not, ◌||◌, List, [], ◌∷◌, map, ℕ, ◌+◌, eqb, get_or}
-use Rattle.std.proofs.Math.Option.{Option, none, some}
+use Rattle.std.specs.Prelude.{◌≡◌, Bool, false, not, ◌||◌, List, [], ◌∷◌, map, ℕ, ◌+◌, eqb, get_or, Option, None, Some}
+use Rattle.std.specs.List.{find}
 use Rattle.cube.specs.NumberLists.{below}
 use Rattle.cube.specs.Mask.{points, byte, mask}
 use Rattle.filter.specs.Sides.{Sides, of_side, both_sides}
@@ -24,7 +24,6 @@ use Rattle.matrix.specs.Matrix.{rank_of}
 use Rattle.matrix.specs.Kept.{kept_mask}
 use Rattle.immunity.specs.declared.Ranks.{Ranks}
 use Rattle.immunity.specs.Ranks.{no_ranks, ranks_if, parts, ranks_up_to, additions_of}
-use Rattle.immunity.specs.First.{first}
 use Rattle.immunity.specs.Mark.{mark_of}
 use Rattle.immunity.specs.Witness.{witness_at}
 
@@ -42,13 +41,13 @@ either_differs o n s f d = differs o n s f d 1 || differs o n s f d 0
 
 -- the first degree up to n at which a side differs
 unfoldable pub reported : List ℕ → ℕ → List ℕ → List ℕ → Option ℕ
-unfolding first differs
-reported o n s f = first (either_differs o n s f) (below (n + 1))
+unfolding differs
+reported o n s f = find (either_differs o n s f) (below (n + 1))
 
 -- the first degree up to n at which the side differs
 unfoldable pub side_degree : List ℕ → ℕ → List ℕ → List ℕ → ℕ → Option ℕ
-unfolding first differs
-side_degree o n s f side = first (λ d. differs o n s f d side) (below (n + 1))
+unfolding differs
+side_degree o n s f side = find (λ d. differs o n s f d side) (below (n + 1))
 
 -- the ranks at a degree, all 0 past n
 unfoldable pub ranks_at : List ℕ → ℕ → List ℕ → List ℕ → ℕ → Ranks
@@ -58,8 +57,8 @@ ranks_at o n s f d = ranks_up_to o n (points s) (both_parts s f) d
 -- the side for the reported degree, or none
 unfoldable pub side_at : List ℕ → ℕ → List ℕ → List ℕ → Option ℕ → Option ℕ
 unfolding differs
-side_at o n s f none = none
-side_at o n s f (some k) = some (byte (differs o n s f k 1))
+side_at o n s f None = None
+side_at o n s f (Some k) = Some (byte (differs o n s f k 1))
 
 -- the additions at a degree
 unfoldable pub additions_at : List ℕ → ℕ → List ℕ → List ℕ → ℕ → ℕ
@@ -73,14 +72,14 @@ summed t (x ∷ xs) = t x + summed t xs
 -- the witness buffer of a side for the reported degree
 unfoldable pub witness_bytes : List ℕ → ℕ → List ℕ → List ℕ → Option ℕ → ℕ → List ℕ
 unfolding witness_at
-witness_bytes o n s f none side = mask (λ u. false)
-witness_bytes o n s f (some k) side = mask (witness_at o n k (points s) (part side s f))
+witness_bytes o n s f None side = mask (λ u. false)
+witness_bytes o n s f (Some k) side = mask (witness_at o n k (points s) (part side s f))
 
 -- the mask of the kept points of the set for the reported degree
 unfoldable pub kept_bytes : List ℕ → ℕ → List ℕ → Option ℕ → List ℕ
 unfolding kept_mask
-kept_bytes o n s none = mask (λ u. false)
-kept_bytes o n s (some k) = kept_mask o n k (points s)
+kept_bytes o n s None = mask (λ u. false)
+kept_bytes o n s (Some k) = kept_mask o n k (points s)
 
 -- what Judge answers, and leaves in the two witness buffers and in the mask of kept points
 pub record Judgement : Type 0 where

@@ -2,7 +2,6 @@
 pub mod Annihilator
 pub mod Certificate
 pub mod CertificateTest
-pub mod First
 pub mod FirstDegree
 pub mod Judgement
 pub mod Mark

@@ -1,4 +1,4 @@
-// Restricted algebraic immunity: definitions and laws, the two types that they share with the code, and a length.
+// Restricted algebraic immunity: definitions and laws, the type that they share with the code, and a length.
 // docs/SPECIFICATION.md, 'Words', 'Judge', 'Witness', 'Certificate' and 'Check'.
 #![tactic(auto)]
 
@@ -6,17 +6,9 @@
 pub const CERTIFICATE: usize = 4096;
 
 // The ranks of the set, of part 1 and of part 0 at one degree.
-#[derive(Clone, Copy)]
+#[derive(Clone, Copy, Debug, PartialEq, Eq)]
 pub struct Ranks {
     pub set: u16,
     pub one: u16,
     pub zero: u16,
-}
-
-// The first degree at which something is so, or none: a side's own degree, at which the rank of its part is not that of
-// the set, or a mark.
-#[derive(Clone, Copy)]
-pub enum FirstDegree {
-    At(usize),
-    None,
 }

@@ -2,6 +2,7 @@
 --   kept_at_none    no point is taken yet
 --   kept_at_yes     the next number is a point of the mask
 --   kept_at_no      it is not
+--   rows_before     there are 512 rows before those that stay
 --   taken_count     how many rows are kept
 --   Wide t          each row has 512 columns
 --   whole_count     the same where the rows are taken whole, whatever the number of columns
@@ -13,7 +14,7 @@ use mathlib.Core.Bool.{Bool, true, false}
 use mathlib.Core.List.{List, [], ◌∷◌, map}
 use Prim.Native.Nat.{ℕ, ◌+◌, ◌≤◌, ◌<◌}
 use native.Mathlib.Omega.{arith}
-use lib.ListN.{length, get_or, set, take, length-append}
+use lib.ListN.{length, get_or, set, take, drop, length-append, length-drop}
 use lib.Seq.{length-take-le}
 use Rattle.cube.specs.NumberLists.{up_from, select, Inside}
 use Rattle.cube.specs.Mask.{member}
@@ -68,9 +69,13 @@ module _ (t : List Row) (c : ℕ) (b : List ℕ) where
   pub kept_at_no : (a k : ℕ) (qs : List ℕ) → member b a ≡ false → KeptAt t c (points_to b a) k qs → KeptAt t c (points_to b (a + 1)) k qs
   kept_at_no a k qs e h = h ∙ ap (λ ps. (eliminate (stored t c) ps).points) (sym (select_no (member b) a e))
 
+-- there are 512 rows before those that stay
+pub rows_before : (t t' : List Row) → drop 512 t' ≡ drop 512 t → length t ≡ 1024 → 512 ≤ length t'
+rows_before t t' e long = omega (arith, simp length-drop at (ap length e))
+
 -- how many rows are kept
-pub taken_count : (t t' : List Row) (c : ℕ) (ps : List ℕ) (k n : ℕ) → Eliminates t t' c ps k n → k ≤ length t' → length (eliminate (stored t c) ps).kept ≡ k
-taken_count t t' c ps k n h l = ap length h.kept ∙ length-take-le k t' l
+pub taken_count : (t t' : List Row) (c : ℕ) (ps : List ℕ) (k n : ℕ) → Eliminates t t' c ps k n → length t ≡ 1024 → k ≤ 512 → length (eliminate (stored t c) ps).kept ≡ k
+taken_count t t' c ps k n h long small = ap length h.kept ∙ length-take-le k t' (omega (arith, rows_before t t' h.stays long))
 
 -- rows that are not zero are kept whole
 kept_whole : (rs : List Row) → Each (λ r. (length r ≡ 512) × (pivot r < 512)) rs → kept_to 512 rs ≡ rs

@@ -8,10 +8,10 @@ use mathlib.Core.Path.{◌≡◌, refl, subst}
 use mathlib.Core.Bool.{true}
 use mathlib.Core.List.{List}
 use Prim.Native.Nat.{ℕ, ◌+◌, ◌-◌, ◌*◌, ◌/◌, ◌≤◌}
+use Rattle.std.specs.Prelude.{Ok}
 use lib.ListN.{length}
 use borrow.Author.Tests.{eq-eqb, le-leb}
 use Rattle.refusal.specs.Outcome.{accepted}
-use Rattle.refusal.specs.declared.verdict.Verdict.TheVariants.{Passed}
 use Rattle.refusal.specs.Verdict.{verdict}
 use Rattle.refusal.proofs.Verdicts.{all_passed, verdict_passes, accepted_passes}
 use Rattle.cube.specs.Cube.{taps}
@@ -47,7 +47,7 @@ rank_accepts o b n d long tapped formed low =
 
 module _ (o b : List ℕ) (n d m l : ℕ) (r : Ranking) (e : rank_outcome o b n d m l ≡ accepted r) where
   -- the checks hold, and the values are the definition's
-  pub passed : (verdict (rank_checks b n d m l) ≡ Passed) × (ranking o n d (points b) ≡ r)
+  pub passed : (verdict (rank_checks b n d m l) ≡ Ok tt) × (ranking o n d (points b) ≡ r)
   unfolding rank_outcome
   passed = let (holds, same) = accepted_passes (rank_checks b n d m l) _ r e in (holds, cc same)
 

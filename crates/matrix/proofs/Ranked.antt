@@ -9,12 +9,12 @@ use mathlib.Core.Path.{◌≡◌, sym, ap, ap₂, ◌∙◌}
 use mathlib.Core.Bool.{true}
 use mathlib.Core.List.{List}
 use Prim.Native.Nat.{ℕ, ◌≤◌}
+use Rattle.std.specs.Prelude.{Ok, Err}
 use lib.ListN.{length, take}
 use borrow.Author.Tests.{eqb-true, leb-true}
 use Rattle.refusal.specs.Refusal.{number_of}
 use Rattle.refusal.specs.Outcome.{Outcome, refused, accepted, left, left_by}
 use Rattle.refusal.specs.declared.Refusal.{Refusal}
-use Rattle.refusal.specs.declared.verdict.Verdict.TheVariants as verdicts
 use Rattle.refusal.specs.Verdict.{verdict}
 use Rattle.refusal.proofs.Verdicts.{passed_all, verdict_refuses, verdict_passes}
 use Rattle.cube.specs.NumberLists.{lists, Inside}
@@ -30,7 +30,6 @@ use Rattle.matrix.specs.Workspace.{Eliminates}
 use Rattle.matrix.specs.Kept.{kept_mask, KeptAt}
 use Rattle.matrix.specs.Rank.{ranked, Ranking, ranking_of, rank_checks, rank_outcome, RankContract}
 use Rattle.matrix.specs.declared.rank.Ranked.{Ranked}
-use Rattle.matrix.specs.declared.rank.RankAnswer.TheVariants.{Refused, Accepted}
 use Rattle.matrix.proofs.Stored.{stored_elimination, kept_count, made_additions}
 
 module _ {o : List ℕ} (g : Graded o) (n d : ℕ) (s : n ≤ 9) (low : d ≤ n) (t : List Row) (there : RowsFrom (exponents o n) n t 0)
@@ -58,7 +57,7 @@ pub record Passes (b : List ℕ) (n d m l : ℕ) : Type 0 where
   pub low : d ≤ n
 
 -- checks that pass show it
-pub rank_passed : (b : List ℕ) (n d m l : ℕ) → verdict (rank_checks b n d m l) ≡ verdicts.Passed → Passes b n d m l
+pub rank_passed : (b : List ℕ) (n d m l : ℕ) → verdict (rank_checks b n d m l) ≡ Ok tt → Passes b n d m l
 rank_passed b n d m l e =
     let (mask, (workspace, (kept, (tapped, (formed, (degree, _)))))) = passed_all (rank_checks b n d m l) e in
     record {
@@ -77,7 +76,7 @@ module _ (o b : List ℕ) (n d : ℕ) (ws kept : List ℕ) where
   outcome = rank_outcome o b n d (length ws) (length kept)
 
   -- a broken check
-  pub refuses : {x : Refusal} → verdict (rank_checks b n d (length ws) (length kept)) ≡ verdicts.Refused x → RankContract outcome ws ws kept kept (Refused x)
+  pub refuses : {x : Refusal} → verdict (rank_checks b n d (length ws) (length kept)) ≡ Err x → RankContract outcome ws ws kept kept (Err x)
   unfolding rank_outcome
   refuses {x} e =
       let broken : outcome ≡ refused (number_of x) = verdict_refuses (rank_checks b n d (length ws) (length kept)) _ e in
@@ -88,8 +87,8 @@ module _ (o b : List ℕ) (n d : ℕ) (ws kept : List ℕ) where
       }
 
   -- no check is broken
-  pub accepts : verdict (rank_checks b n d (length ws) (length kept)) ≡ verdicts.Passed → {ws' kept' : List ℕ} {r : Ranked}
-      → r ≡ ranked o n d (points b) → ws' ≡ zeros (length ws) → kept' ≡ kept_mask o n d (points b) → RankContract outcome ws ws' kept kept' (Accepted r)
+  pub accepts : verdict (rank_checks b n d (length ws) (length kept)) ≡ Ok tt → {ws' kept' : List ℕ} {r : Ranked}
+      → r ≡ ranked o n d (points b) → ws' ≡ zeros (length ws) → kept' ≡ kept_mask o n d (points b) → RankContract outcome ws ws' kept kept' (Ok r)
   unfolding rank_outcome
   accepts e {ws'} {kept'} {r} f z m =
       let passes : outcome ≡ accepted (ranking_of r kept') = verdict_passes (rank_checks b n d (length ws) (length kept)) _ e ∙ sym (ap₂ (λ x y. accepted (ranking_of x y)) f m) in

@@ -1,5 +1,7 @@
 -- The points of a mask are taken in the workspace.
---   takes             a row copied behind the kept rows, reduced, and kept or not, is taken as the definition says
+--   copied_before     the kept rows stay where a row is copied behind them
+--   copied_row        the row stands there
+--   takes             a row copied, reduced, and kept or not, is taken as the definition says
 --   takes_from        a row taken by its number, where the number has another name
 --   points_to b a      the points of the mask b below a
 --   eliminates_none   no point is taken yet
@@ -24,13 +26,20 @@ use Rattle.gf2.proofs.Steps.{kept_more}
 use Rattle.point_rows.specs.Workspace.{stored}
 use Rattle.matrix.specs.Workspace.{Takes, Eliminates}
 
+module _ (t₀ t₁ : List Row) (k : ℕ) (v : Row) (l : k < length t₀) (e : t₁ ≡ set t₀ k v) where
+  -- the kept rows stay where a row is copied behind them
+  pub copied_before : take k t₁ ≡ take k t₀
+  copied_before = ap (take k) e ∙ take-set-le k t₀ k v (le_refl k)
+
+  -- the row stands there
+  pub copied_row : row_of t₁ k ≡ v
+  copied_row = ap (λ t. row_of t k) e ∙ get_or-set_same t₀ k v [] l
+
 -- a row copied behind the kept rows, reduced, and kept or not, is taken as the definition says
 pub takes : (t₀ t₁ t₂ : List Row) (k k' n : ℕ) (v : Row) → k < length t₀ → k < 512 → t₁ ≡ set t₀ k v → Reduces k k t₁ t₂ n
     → k' ≡ one_more_unless (is_zero (row_of t₂ k)) k → k' ≤ k + 1 → n ≤ k → Takes t₀ t₂ k k' v n
 takes t₀ t₁ t₂ k k' n v l s e r f g h =
-    let before : take k t₁ ≡ take k t₀ = ap (take k) e ∙ take-set-le k t₀ k v (le_refl k) in
-    let here : row_of t₁ k ≡ v = ap (λ t. row_of t k) e ∙ get_or-set_same t₀ k v [] l in
-    let same : reduce (take k t₁) (row_of t₁ k) ≡ reduce (take k t₀) v = ap₂ reduce before here in
+    let same : reduce (take k t₁) (row_of t₁ k) ≡ reduce (take k t₀) v = ap₂ reduce (copied_before t₀ t₁ k v l e) (copied_row t₀ t₁ k v l e) in
     let left : Row = (reduce (take k t₀) v).left in
     let rows : t₂ ≡ set t₀ k left = r.rows ∙ ap₂ (λ t m. set t k m.left) e same ∙ set-set t₀ k v left in
     let there : row_of t₂ k ≡ left = ap (λ t. row_of t k) rows ∙ get_or-set_same t₀ k left [] l in

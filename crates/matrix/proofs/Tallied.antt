@@ -8,10 +8,9 @@ use mathlib.Core.Path.{◌≡◌, refl, sym, ap, ap₂, ◌∙◌}
 use mathlib.Core.Bool.{true, false}
 use mathlib.Core.List.{List, []}
 use Prim.Native.Nat.{ℕ, ◌+◌, ◌≤◌, ◌<◌}
-use native.Mathlib.Nat.{le_refl}
 use native.Mathlib.Omega.{arith}
 use lib.ListN.{length, get_or, set, take}
-use lib.Seq.{get_or-set_same, take-set-le, length-take-le, get_or-drop}
+use lib.Seq.{length-take-le, get_or-drop}
 use Rattle.cube.specs.NumberLists.{up_from, select}
 use Rattle.cube.specs.Mask.{member}
 use Rattle.cube.proofs.Masks.{select_yes, select_no}
@@ -28,15 +27,14 @@ use Rattle.gf2.proofs.Prefix.{kept_cut, left_cut, length_kept, pivots_taken}
 use Rattle.packed.proofs.Tally.{sum_zeros, tallies_reduces}
 use Rattle.point_rows.specs.Workspace.{stored}
 use Rattle.matrix.specs.Workspace.{Takes, TakesAll, EliminatesAll}
-use Rattle.matrix.proofs.Taking.{takes, points_to}
+use Rattle.matrix.proofs.Taking.{copied_before, copied_row, takes, points_to}
+use Rattle.matrix.proofs.KeptPoints.{Wide}
 
 -- a row copied behind the kept rows, reduced with a tally, and kept or not
-pub takes_all : (t₀ t₁ t₂ : List Row) (k k' : ℕ) (v : Row) (xs xs' : List ℕ) → k < length t₀ → k < 512
-    → ((j : ℕ) → j < length t₀ → length (row_of t₀ j) ≡ 512) → length v ≡ 512 → t₁ ≡ set t₀ k v → Tallies k k t₁ t₂ xs xs'
+pub takes_all : (t₀ t₁ t₂ : List Row) (k k' : ℕ) (v : Row) (xs xs' : List ℕ) → k < length t₀ → k < 512 → Wide t₀ → length v ≡ 512 → t₁ ≡ set t₀ k v → Tallies k k t₁ t₂ xs xs'
     → k' ≡ one_more_unless (is_zero (row_of t₂ k)) k → k' ≤ k + 1 → TakesAll t₀ t₂ k k' v xs xs'
 takes_all t₀ t₁ t₂ k k' v xs xs' l s long wide e r f g =
-    let before : take k t₁ ≡ take k t₀ = ap (take k) e ∙ take-set-le k t₀ k v (le_refl k) in
-    let here : row_of t₁ k ≡ v = ap (λ t. row_of t k) e ∙ get_or-set_same t₀ k v [] l in
+    let before = copied_before t₀ t₁ k v l e in
     let few : count (reduce (take k t₁) (row_of t₁ k)).added ≤ k =
     omega (arith, reduce_few (take k t₁) (row_of t₁ k), ap length before, length-take-le k t₀ (omega arith)) in
     let one : Takes t₀ t₂ k k' v (count (reduce (take k t₁) (row_of t₁ k)).added) =
@@ -45,7 +43,7 @@ takes_all t₀ t₁ t₂ k k' v xs xs' l s long wide e r f g =
     record {
       kept = λ c. ap (kept_to c) one.kept ∙ kept_cut c (take k t₀) (reduce (take k t₀) v).left
           ∙ ap (λ w. keep_unless (is_zero w) (kept_to c (take k t₀)) w) (sym (left_cut c 512 (take k t₀) v rows wide));
-      additions = λ c. r.additions c ∙ ap₂ (λ t w. sum_to c xs + count (reduce (kept_to c t) (cut c w)).added) before here;
+      additions = λ c. r.additions c ∙ ap₂ (λ t w. sum_to c xs + count (reduce (kept_to c t) (cut c w)).added) before (copied_row t₀ t₁ k v l e);
       stays = one.stays;
       grows = g;
       few = r.few;
@@ -85,7 +83,7 @@ module _ (t : List Row) (b : List ℕ) where
 
 -- the pivots below c are as many as the rows kept of the first c columns
 pub tallied_kept : (t : List Row) (ps : List ℕ) (t' : List Row) (k : ℕ) (xs : List ℕ) → EliminatesAll t t' ps k xs
-    → (pivots : List ℕ) → length pivots ≡ 512 → length t' ≡ 1024 → ((j : ℕ) → j < length t' → length (row_of t' j) ≡ 512) → k ≤ 512 → Pivots pivots t' k
+    → (pivots : List ℕ) → length pivots ≡ 512 → length t' ≡ 1024 → Wide t' → k ≤ 512 → Pivots pivots t' k
     → (c : ℕ) → count_to c (take k pivots) ≡ length (eliminate (stored t c) ps).kept
 tallied_kept t ps t' k xs h pivots l m long small p c =
     let ones : Each (λ r. pivot r < length r) (take k t') =

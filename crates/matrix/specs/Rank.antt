@@ -7,17 +7,15 @@
 --   rank_outcome o b n d m l   what Rank answers and leaves in the order o: the first refusal, or rank, additions and kept points of the mask's points
 --   outcome_of r kept          what an answer of Rank, with the mask kept at exit, states
 --   RankContract o ..          the contract of Rank: it answers the outcome o, and leaves what that says
-use Rattle.std.specs.Prelude.{◌≡◌, List, ◌++◌, ℕ, length}
-use Rattle.refusal.specs.Refusal.{number_of}
-use Rattle.refusal.specs.Outcome.{Outcome, refused, accepted, Check, checked, left, left_by}
+use Rattle.std.specs.Prelude.{◌≡◌, List, ◌++◌, ℕ, length, Result}
+use Rattle.refusal.specs.Outcome.{Outcome, accepted, Check, checked, left, left_by, outcome_by}
+use Rattle.refusal.specs.declared.Refusal.{Refusal}
 use Rattle.cube.specs.Mask.{points}
 use Rattle.filter.specs.Checks.{length_is, taps_of, mask_of, degree_up_to}
 use Rattle.packed.specs.Packed.{zeros}
 use Rattle.matrix.specs.Matrix.{eliminated, rank_of}
 use Rattle.matrix.specs.Kept.{kept_mask}
 use Rattle.matrix.specs.declared.rank.Ranked.{Ranked}
-use Rattle.matrix.specs.declared.rank.RankAnswer.{RankAnswer}
-use Rattle.matrix.specs.declared.rank.RankAnswer.TheVariants.{Refused, Accepted}
 
 -- the rank of points and the additions of their elimination
 abbrev pub ranked : List ℕ → ℕ → ℕ → List ℕ → Ranked
@@ -46,12 +44,11 @@ unfoldable pub rank_outcome : List ℕ → List ℕ → ℕ → ℕ → ℕ → 
 rank_outcome o b n d m l = checked (rank_checks b n d m l) (accepted (ranking o n d (points b)))
 
 -- the number or the values of an answer
-abbrev pub outcome_of : RankAnswer → List ℕ → Outcome Ranking
-outcome_of (Refused x) kept = refused (number_of x)
-outcome_of (Accepted r) kept = accepted (ranking_of r kept)
+abbrev pub outcome_of : Result Ranked Refusal → List ℕ → Outcome Ranking
+outcome_of r kept = outcome_by r (λ x. ranking_of x kept)
 
 -- what is answered, and how the workspace and the mask are left
-pub record RankContract (o : Outcome Ranking) (ws ws' kept kept' : List ℕ) (r : RankAnswer) : Type 0 where
+pub record RankContract (o : Outcome Ranking) (ws ws' kept kept' : List ℕ) (r : Result Ranked Refusal) : Type 0 where
   pub answers : outcome_of r kept' ≡ o
   pub leaves : ws' ≡ left o ws (zeros (length ws))
   pub leaves_kept : kept' ≡ left_by o kept (λ x. x.kept)

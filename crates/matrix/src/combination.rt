@@ -10,15 +10,18 @@ ghost use Rattle.packed.specs.Packed.{unpacked};
 ghost use Rattle.point_rows.specs.Workspace.{stored};
 ghost use Rattle.matrix.specs.Combination.{followed, Combines, OutsidePlaces};
 
-use cube::{POINTS, Point};
+use cube::Point;
+use cube::mask::Mask;
 use packed::basis::{keep, reduce_both};
-use packed::row::{clear_row, copy_columns, set_entry};
+use packed::row::set_entry;
+use packed::workspace::{clear_row, copy_columns};
+use packed::{COLUMNS, Rows};
 use point_rows::row_of;
 
 // The first `columns` columns of the row of the point `a` are put behind the `kept` rows, and its place is cleared. A
 // kernel for the crates above: no other row changes.
-pub fn move_row(ws: &mut [u64], kept: usize, a: Point, columns: usize)
-    requires { (length ws.old ≡ 8192) × (kept < 512) × (a.0 < 512) }
+pub fn move_row(ws: &mut Rows, kept: usize, a: Point, columns: usize)
+    requires { (kept < 512) × (a.0 < 512) }
     ensures { unpacked ws.new ≡ set (set (unpacked ws.old) kept (stored (unpacked ws.old) columns a.0)) (512 + a.0) zero_row }
 {
     let place = row_of(a);
@@ -29,14 +32,14 @@ pub fn move_row(ws: &mut [u64], kept: usize, a: Point, columns: usize)
 // The point `q` is taken: what is left of the first `columns` columns of its row is kept if it is not zero, and its
 // combination stands in the place of the point. The result is the number of kept rows.
 fn take_combining(
-    ws: &mut [u64],
-    pivots: &mut [u16],
-    places: &mut [u16],
+    ws: &mut Rows,
+    pivots: &mut [u16; COLUMNS],
+    places: &mut [u16; COLUMNS],
     kept: usize,
     q: Point,
     columns: usize,
 ) -> usize
-    requires { (length ws.old ≡ 8192) × (length pivots.old ≡ 512) × (length places.old ≡ 512) × (kept < 512) × (q.0 < 512) × Pivots pivots.old (unpacked ws.old) kept × Places places.old kept (512 + q.0) }
+    requires { (kept < 512) × (q.0 < 512) × Pivots pivots.old (unpacked ws.old) kept × Places places.old kept (512 + q.0) }
     ensures row_followed { unpacked ws.new ≡ followed columns kept q.0 (padded 512 (unit q.0)) places.old (unpacked ws.old) }
     ensures place_taken { places.new ≡ set places.old kept (512 + q.0) }
     ensures number_kept { (result ≡ one_more_unless (is_zero (row_of (unpacked ws.new) kept)) kept) × (result ≤ kept + 1) }
@@ -44,7 +47,7 @@ fn take_combining(
 {
     let place = row_of(q);
     move_row(ws, kept, q, columns);
-    set_entry(ws, place, q.0 as usize);
+    set_entry(&mut ws[place], q.0 as usize);
     reduce_both(ws, pivots, places, kept, kept, place);
     places[kept] = place as u16;
     keep(ws, pivots, kept)
@@ -54,24 +57,21 @@ fn take_combining(
 // that of its point. The result is the number of kept rows. A kernel for the crates above: the rows from the kept ones to
 // 512, those in the places of points of `mask` that are not kept, and the pivots and places past the kept ones are scratch.
 pub fn eliminate_combining(
-    ws: &mut [u64],
-    pivots: &mut [u16],
-    places: &mut [u16],
-    mask: &[u8],
+    ws: &mut Rows,
+    pivots: &mut [u16; COLUMNS],
+    places: &mut [u16; COLUMNS],
+    mask: &Mask,
     columns: usize,
 ) -> usize
-    requires { (length ws.old ≡ 8192) × (length pivots.old ≡ 512) × (length places.old ≡ 512) × (length mask.now ≡ 512) }
     ensures combines { Combines (unpacked ws.old) (unpacked ws.new) columns (points mask.now) result places.new }
     ensures kept_at_most_points { result ≤ length (points mask.now) }
     ensures pivots { Pivots pivots.new (unpacked ws.new) result × OutsidePlaces places.new result mask.now }
 {
     let mut kept: usize = 0;
-    let mut q: usize = 0;
-    while q < POINTS {
-        if mask[q] == 1 {
+    for (q, &byte) in mask.iter().enumerate() {
+        if byte == 1 {
             kept = take_combining(ws, pivots, places, kept, Point(q as u16), columns);
         }
-        q += 1;
     }
     kept
 }

@@ -27,14 +27,12 @@ fn append_points(output: &mut [u8], from: usize, mask: &[u8]) -> usize
     ensures { Appends (differences 0 (points mask.now)) output.old output.new from result }
 {
     let mut at = from;
-    let mut prev: usize = 0;
-    let mut i: usize = 0;
-    while i < mask.len() {
-        if mask[i] == 1 {
+    let mut prev = 0;
+    for (i, &byte) in mask.iter().enumerate() {
+        if byte == 1 {
             at = append_varint(output, at, i - prev);
             prev = i;
         }
-        i += 1;
     }
     at
 }

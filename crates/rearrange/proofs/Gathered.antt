@@ -13,7 +13,7 @@ use native.Mathlib.Nat.{pow-suc}
 use native.Mathlib.Numerals.{add-one}
 use lib.Bits.{bit_or}
 use lib.Dec.{ltb}
-use lib.ListN.{length, get_or, replicate, length-replicate, get_or-replicate}
+use lib.ListN.{length, get_or, replicate, get_or-replicate}
 use lib.Pow.{pow_mono}
 use borrow.Author.Tests.{ltb-true}
 use Rattle.cube.specs.Cube.{size}
@@ -27,7 +27,6 @@ use Rattle.wiring.proofs.Wirings.{place_entry, places_long, moves}
 pub old_none : (n : ℕ) (ts : List ℕ) → OldPoints n ts 0 (replicate 512 0)
 unfolding old_point
 old_none n ts = record {
-  long = length-replicate {A = ℕ} 512 0;
   at = λ a l. let e : a ≡ 0 = omega arith in rw e (get_or-replicate {A = ℕ} 512 0 0 0 (omega arith) ∙ sym (spread_zero (places n ts)));
 }
 
@@ -45,7 +44,6 @@ module _ {n : ℕ} {ts : List ℕ} (w : Wiring n ts) where
   -- doubled, the old points of the numbers below 2^k are those below 2^(k + 1)
   pub old_next : {k : ℕ} {ps qs : List ℕ} → k < n → OldPoints n ts k ps → Doubled k (n - get_or ts (n - 1 - k) 0) ps qs → OldPoints n ts (k + 1) qs
   old_next {k} {ps} {qs} l old new = record {
-    long = new.long;
     at = λ a m. elim (dec_lt a (2 ^ k)) [
       | yes i ↦ new.low a i ∙ old.at a i
       | no i ↦

@@ -8,13 +8,11 @@
 --   RearrangeContract o ..         the contract of Rearrange: it answers the outcome o, and leaves what that says
 --   RearrangeAccepts n s f ts x    Rearrange accepts n taps, the set s, the table f and the wiring ts, and leaves x
 use Rattle.std.specs.Prelude.{◌≡◌, List, [], ◌∷◌, ◌++◌, ℕ}
-use Rattle.refusal.specs.Refusal.{number_of}
-use Rattle.refusal.specs.Outcome.{Outcome, refused, accepted, Check, ◌otherwise◌, checked, left_by}
+use Rattle.refusal.specs.Outcome.{Outcome, accepted, Check, ◌otherwise◌, checked, left_by, outcome_by}
+use Rattle.refusal.specs.Verdict.{Verdict}
 use Rattle.refusal.specs.declared.Refusal.TheVariants as refusal
 use Rattle.filter.specs.Checks.{taps_of, filter_lengths, filter_masks}
 use Rattle.wiring.specs.Wiring.{is_wiring, rewired}
-use Rattle.rearrange.specs.declared.RearrangeAnswer.{RearrangeAnswer}
-use Rattle.rearrange.specs.declared.RearrangeAnswer.TheVariants.{Refused, Accepted}
 
 -- a set and a table
 pub record Rearranged : Type 0 where
@@ -38,12 +36,11 @@ unfoldable pub rearrange_outcome : List ℕ → List ℕ → ℕ → List ℕ �
 rearrange_outcome s f n ts = checked (rearrange_checks s f n ts) (accepted (rearranged n ts s f))
 
 -- the number of an answer, or the set and the table
-abbrev pub outcome_of : RearrangeAnswer → List ℕ → List ℕ → Outcome Rearranged
-outcome_of (Refused x) s f = refused (number_of x)
-outcome_of Accepted s f = accepted (record { set = s; table = f })
+abbrev pub outcome_of : Verdict → List ℕ → List ℕ → Outcome Rearranged
+outcome_of r s f = outcome_by r (λ u. record { set = s; table = f })
 
 -- what is answered, and how the set and the table are left
-pub record RearrangeContract (o : Outcome Rearranged) (s s' f f' : List ℕ) (r : RearrangeAnswer) : Type 0 where
+pub record RearrangeContract (o : Outcome Rearranged) (s s' f f' : List ℕ) (r : Verdict) : Type 0 where
   pub answers : outcome_of r s' f' ≡ o
   pub leaves_set : s' ≡ left_by o s (λ x. x.set)
   pub leaves_table : f' ≡ left_by o f (λ x. x.table)

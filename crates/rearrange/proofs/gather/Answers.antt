@@ -16,43 +16,28 @@ use Rattle.rearrange.proofs.gather.Goals.{After-size-points, In-loop-a}
 sized : (c : After-size-points) → (c.size-points.result ≡ size c.args.n) × (size c.args.n ≤ 512)
 sized c = (c.size-points.ensures.0 (omega (arith, c.requires.0)), pow_mono c.requires.0)
 
--- in a turn the point and its old point are below 512
-near : (c : In-loop-a) → ((c.size-points.result ≡ size c.args.n) × (size c.args.n ≤ 512)) → (c.loop-a.a < 512) × (get_or c.args.old.now c.loop-a.a 0 < 512)
-near c sized =
-    (omega (arith, sized.0, sized.1), c.requires.4 c.loop-a.a (omega (arith, sized.0)))
+-- in a turn the point is below 512
+near : (c : In-loop-a) → ((c.size-points.result ≡ size c.args.n) × (size c.args.n ≤ 512)) → c.loop-a.a < 512
+near c sized = omega (arith, sized.0, sized.1)
 
 pub loop-a-init : goal.loop-a-init
-loop-a-init c = (omega arith, fills_none _)
+loop-a-init c = fills_none _
 
 pub loop-a-preserved : goal.loop-a-preserved
 loop-a-preserved c =
     let a = c.loop-a.a in
-    let m = c.args.mask.now in (
-      omega (arith, (sized (goal.at.loop-a-preserved c).After-size-points).0),
-      fills_next _ c.loop-a.new a _ c.loop-a.invariant.1 (omega (arith, (sized (goal.at.loop-a-preserved c).After-size-points).0, (sized (goal.at.loop-a-preserved c).After-size-points).1))
-          (sym (byte_member m (get_or c.args.old.now a 0) (byte_small (size c.args.n) m (get_or c.args.old.now a 0) c.requires.2))),
-    )
+    let m = c.args.mask.now in
+    fills_next _ c.loop-a.new a _ c.loop-a.invariant (near (goal.at.loop-a-preserved c).In-loop-a (sized (goal.at.loop-a-preserved c).After-size-points))
+    (sym (byte_member m (get_or c.args.old.now a 0) (byte_small (size c.args.n) m (get_or c.args.old.now a 0) c.requires.2)))
 
 pub returns : goal.returns
 unfolding gathered
 returns c =
-    let e : c.loop-a.a ≡ size c.args.n = omega (arith, (sized (goal.at.returns c).After-size-points).0, c.loop-a.invariant.0) in
-    fills_all (λ i. member c.args.mask.now (get_or c.args.old.now i 0)) c.loop-a.new (size c.args.n) (rw (← e) c.loop-a.invariant.1)
-
-pub offset_bounds-old-a : goal.offset_bounds-old-a
-offset_bounds-old-a c = omega (arith, (near (goal.at.offset_bounds-old-a c).In-loop-a (sized (goal.at.offset_bounds-old-a c).After-size-points)).0)
+    let e : c.loop-a.a ≡ size c.args.n = omega (arith, (sized (goal.at.returns c).After-size-points).0) in
+    fills_all (λ i. member c.args.mask.now (get_or c.args.old.now i 0)) c.loop-a.new (size c.args.n) (rw (← e) c.loop-a.invariant)
 
 pub bounds-old-a : goal.bounds-old-a
-bounds-old-a c = omega (arith, (near (goal.at.bounds-old-a c).In-loop-a (sized (goal.at.bounds-old-a c).After-size-points)).0)
-
-pub overflow_cast-from : goal.overflow_cast-from
-overflow_cast-from c = omega (arith, (near (goal.at.overflow_cast-from c).In-loop-a (sized (goal.at.overflow_cast-from c).After-size-points)).1)
-
-pub bounds-mask-from : goal.bounds-mask-from
-bounds-mask-from c = omega (arith, (near (goal.at.bounds-mask-from c).In-loop-a (sized (goal.at.bounds-mask-from c).After-size-points)).0, (near (goal.at.bounds-mask-from c).In-loop-a (sized (goal.at.bounds-mask-from c).After-size-points)).1, c.requires.1)
+bounds-old-a c = near (goal.at.bounds-old-a c).In-loop-a (sized (goal.at.bounds-old-a c).After-size-points)
 
 pub bounds-new-a : goal.bounds-new-a
-bounds-new-a c = omega (arith, (near (goal.at.bounds-new-a c).In-loop-a (sized (goal.at.bounds-new-a c).After-size-points)).0, (near (goal.at.bounds-new-a c).In-loop-a (sized (goal.at.bounds-new-a c).After-size-points)).1)
-
-pub overflow_add-a : goal.overflow_add-a
-overflow_add-a c = omega (arith, (near (goal.at.overflow_add-a c).In-loop-a (sized (goal.at.overflow_add-a c).After-size-points)).0)
+bounds-new-a c = near (goal.at.bounds-new-a c).In-loop-a (sized (goal.at.bounds-new-a c).After-size-points)

@@ -1,11 +1,7 @@
-use Prim.Native.Nat.{◌-◌, ◌^◌, ◌≤◌}
 use lib.ListN.{get_or}
 use Rattle.cube.specs.Mask.{member}
 use Rattle.cube.proofs.Filled.{Fills}
 use Rattle.rearrange.proofs.gather.Given as goal
 
 abbrev pub invariant-loop-a : goal.invariant-loop-a
-invariant-loop-a l = (l.a ≤ 2 ^ l.n) × Fills (λ i. member l.mask (get_or l.old i 0)) l.new l.a
-
-abbrev pub decreases-loop-a : goal.decreases-loop-a
-decreases-loop-a l = l.points - l.a
+invariant-loop-a l = Fills (λ i. member l.mask (get_or l.old i 0)) l.new l.a

@@ -1,26 +1,13 @@
--- The loop's invariant: the list names the tap just if its entries from i on do.
-use mathlib.Core.Path.{refl, sym, ◌∙◌}
-use native.Mathlib.Omega.{arith}
-use Rattle.cube.proofs.Listed.{lists_here, lists_later, lists_end}
+use borrow.Author.Rules.{rules}
+use borrow.Author.Tests.{tests}
+use mathlib.Core.Path.{◌∙◌}
+use lib.Dec.{eqb}
+use Rattle.std.proofs.lemmas.Iterator.{YieldsList-from_slice}
+use Rattle.std.proofs.lemmas.Iterator.Search.{any_from_yields_List}
+use Rattle.wiring.proofs.Named.{any_lists}
 use Rattle.wiring.proofs.has_tap.Goals as goal
-
-pub loop-i-init : goal.loop-i-init
-loop-i-init c = (omega arith, refl)
-
-pub overflow_cast-wiring : goal.overflow_cast-wiring
-overflow_cast-wiring c = omega (arith, c.type_inv.wiring c.loop-i.i)
-
-pub returns-then-wiring-i : goal.returns-then-wiring-i
-returns-then-wiring-i c =
-    let a = c.args in
-    sym (c.loop-i.invariant.1 ∙ lists_here a.wiring.now c.loop-i.i a.t (omega arith) c.if-wiring-i.true)
-
-pub loop-i-preserved : goal.loop-i-preserved
-loop-i-preserved c =
-    let a = c.args in
-    (omega arith, c.loop-i.invariant.1 ∙ lists_later a.wiring.now c.loop-i.i a.t (omega arith) c.if-wiring-i.false)
 
 pub returns : goal.returns
 returns c =
     let a = c.args in
-    sym (c.loop-i.invariant.1 ∙ lists_end a.wiring.now c.loop-i.i a.t (omega arith))
+    any_from_yields_List (λ x. eqb x a.t) _ _ _ c.any.ensures.ran (YieldsList-from_slice a.wiring.now (cc)) (λ x b q k. search (rules, tests)) ∙ any_lists a.wiring.now a.t

@@ -1,12 +1,10 @@
 -- The row is copied behind the kept rows and reduced there, which leaves their pivots (pivots_set); the law takes joins copy, reduction and keep.
-use mathlib.Core.Path.{◌∙◌}
 use Prim.Native.Nat.{◌<◌}
 use native.Mathlib.Nat.{le_refl}
 use native.Mathlib.Omega.{arith}
-use lib.ListN.{length}
-use Rattle.packed.specs.Packed.{unpacked}
+use lib.ListN.{length, length-map}
+use Rattle.packed.specs.Packed.{unpack, unpacked}
 use Rattle.gf2.specs.Steps.{Pivots}
-use Rattle.packed.proofs.Rows.{length_rows}
 use Rattle.gf2.proofs.Steps.{pivots_set}
 use Rattle.matrix.proofs.Taking.{takes}
 use Rattle.matrix.proofs.elimination.take_row.Goals as goal
@@ -16,27 +14,25 @@ use Rattle.matrix.proofs.elimination.take_row.Goals.{After-copy_columns}
 copied : (c : After-copy_columns) →
     Pivots c.args.pivots.now (unpacked c.copy_columns.new.ws) c.args.kept
 copied c =
-    pivots_set c.args.pivots.now (unpacked c.args.ws.now) c.args.kept c.args.kept _ (unpacked c.copy_columns.new.ws) c.copy_columns.ensures (le_refl _) c.requires.4
+    pivots_set c.args.pivots.now (unpacked c.args.ws.now) c.args.kept c.args.kept _ (unpacked c.copy_columns.new.ws) c.copy_columns.ensures (le_refl _) c.requires.2
 
 pub reduce-additions-requires : goal.reduce-additions-requires
 reduce-additions-requires c =
-    (c.copy_columns.auto.ws ∙ c.requires.0, c.requires.1, omega arith, omega arith, omega arith, copied (goal.at.reduce-additions-requires c).After-copy_columns)
+    (omega arith, omega arith, omega arith, copied (goal.at.reduce-additions-requires c).After-copy_columns)
 
 pub keep-requires : goal.keep-requires
 keep-requires c =
     let k = c.args.kept in (
-      c.reduce-additions.auto.ws ∙ c.copy_columns.auto.ws ∙ c.requires.0,
-      c.requires.1,
-      c.requires.2,
+      c.requires.0,
       pivots_set c.args.pivots.now (unpacked c.copy_columns.new.ws) k k _ (unpacked c.reduce-additions.new.ws) c.reduce-additions.ensures.0.rows (le_refl _) (copied (goal.at.keep-requires c).After-copy_columns),
     )
 
 pub returns : goal.returns
 returns c =
     let t = unpacked c.args.ws.now in
-    let l : c.args.kept < length t = rw (length_rows 1024 c.args.ws.now) (omega arith) in
+    let l : c.args.kept < length t = omega (arith, length-map c.args.ws.now unpack) in
     record {
-      takes = takes t (unpacked c.copy_columns.new.ws) (unpacked c.reduce-additions.new.ws) c.args.kept c.keep.result c.reduce-additions.result _ l c.requires.2
+      takes = takes t (unpacked c.copy_columns.new.ws) (unpacked c.reduce-additions.new.ws) c.args.kept c.keep.result c.reduce-additions.result _ l c.requires.0
           c.copy_columns.ensures c.reduce-additions.ensures.0 c.keep.ensures.value.0 c.keep.ensures.value.1 c.reduce-additions.ensures.1;
       pivots = c.keep.ensures.pivots;
     }

@@ -1,7 +1,8 @@
+-- The loop's invariant: zeros with the points marked whose pivots, among the first j, are below the column.
 use mathlib.Core.Path.{◌≡◌}
 use mathlib.Core.List.{List}
-use Prim.Native.Nat.{ℕ, ◌-◌, ◌≤◌}
-use lib.ListN.{length, take}
+use Prim.Native.Nat.{ℕ}
+use lib.ListN.{take}
 use Rattle.cube.specs.Mask.{with_ones}
 use Rattle.gf2.specs.Prefix.{points_below}
 use Rattle.packed.specs.Packed.{zeros}
@@ -12,7 +13,4 @@ abbrev pub marked : ℕ → List ℕ → List ℕ → ℕ → List ℕ
 marked c ps qs j = with_ones (points_below c (take j ps) (take j qs)) (zeros 512)
 
 abbrev pub invariant-loop-j : goal.invariant-loop-j
-invariant-loop-j l = (l.j ≤ l.kept) × (length l.marks ≡ 512) × (l.marks ≡ marked l.columns l.pivots l.points l.j)
-
-abbrev pub decreases-loop-j : goal.decreases-loop-j
-decreases-loop-j l = l.kept - l.j
+invariant-loop-j l = l.marks ≡ marked l.columns l.pivots l.points l.j

@@ -1,7 +1,9 @@
-use mathlib.Core.Path.{ap, ◌∙◌}
+use mathlib.Core.Path.{◌≡◌, sym, ap, ◌∙◌}
+use native.Mathlib.Omega.{arith}
+use Rattle.std.proofs.Common.{rules}
+use lib.ListN.{length, length-map}
 use Rattle.cube.proofs.Masks.{points_inside}
-use Rattle.packed.specs.Packed.{unpacked, zeros}
-use Rattle.packed.proofs.Rows.{length_rows}
+use Rattle.packed.specs.Packed.{unpack, unpacked, zeros}
 use Rattle.point_rows.specs.Workspace.{exponents}
 use Rattle.point_rows.proofs.Stored.{filled_rows}
 use Rattle.matrix.proofs.rank.rank_points.Goals as goal
@@ -9,22 +11,17 @@ use Rattle.matrix.proofs.rank.rank_points.Goals as goal
 pub keep_points-ranked-requires : goal.keep_points-ranked-requires
 keep_points-ranked-requires c =
     let n = c.args.n in
-    let o = c.args.order.now in
-    let ws = c.args.workspace.now in (
-      c.fill_rows.auto.ws ∙ c.requires.1,
-      c.requires.0,
-      c.requires.2,
-      c.requires.6,
+    let ws = c.rows-ws.result.now in
+    let mask : c.unwrap-mask.result.now ≡ c.args.mask.now = search rules in (
       c.requires.3,
       c.requires.4,
-      points_inside n c.args.mask.now c.requires.5,
-      rw c.fill_rows.ensures (filled_rows (exponents o n) n c.requires.3 (unpacked ws) (length_rows 1024 ws)),
+      rw mask (points_inside n c.args.mask.now c.requires.5),
+      rw c.fill_rows.ensures (filled_rows (exponents c.args.order.now.list n) n c.requires.3 (unpacked ws) (length-map ws unpack ∙ c.rows-ws.ensures)),
     )
 
-pub returns : goal.returns
-returns c =
-    record {
-      ranked = c.keep_points-ranked.ensures.ranked;
-      workspace_cleared = c.clear.ensures ∙ ap zeros (c.keep_points-ranked.auto.ws ∙ c.fill_rows.auto.ws);
-      kept_marked = c.keep_points-ranked.ensures.kept_marked;
-    }
+-- the workspace has its length still, and is filled with zeros
+pub returns-clause-workspace_cleared : goal.returns-clause-workspace_cleared
+unfolding zeros
+returns-clause-workspace_cleared c =
+    let long : length c.fill.new.self ≡ length c.args.workspace.now = omega arith in
+    c.fill.ensures.after (λ y e. e) ∙ ap zeros (sym c.fill.ensures.len ∙ long)
