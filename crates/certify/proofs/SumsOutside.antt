@@ -47,38 +47,38 @@ module _ (t : List Row) (c k : ℕ) (ps s b : List ℕ) where
     same : reduce (take k t') (stored t' c a) ≡ reduce (take k t) (stored t c a)
     same = ap₂ reduce h.kept (ap (cut c) (h.later a (omega arith)))
 
-    -- what is left of its row
-    left : (t'' : List Row) → length t' ≡ 1024 → k < 512 → a < 512 → t'' ≡ followed c k a zero_row ps t' → row_of t'' k ≡ (reduce (take k t) (stored t c a)).left
-    left t'' long small point rows = ap (λ x. row_of x k) rows ∙ followed_left c k a zero_row ps t' long small point ∙ ap (λ (r : Reduced). r.left) same
+    module _ (t'' : List Row) (long : length t' ≡ 1024) (small : k < 512) (point : a < 512) (rows : t'' ≡ followed c k a zero_row ps t') where
+      -- what is left of its row
+      left : row_of t'' k ≡ (reduce (take k t) (stored t c a)).left
+      left = ap (λ x. row_of x k) rows ∙ followed_left c k a zero_row ps t' long small point ∙ ap (λ (r : Reduced). r.left) same
 
-    -- it is in the set and outside the part, and something is left of its row
-    pub no_sum : (t'' : List Row) → length t' ≡ 1024 → k < 512 → a < 512 → t'' ≡ followed c k a zero_row ps t' → is_outside (points s) (points b) a ≡ true → is_zero (row_of t'' k) ≡ false → NoSum t c k s b
-    no_sum t'' long small point rows o e = record { point = a; below = point; outside = o; left = ap is_zero (sym (left t'' long small point rows)) ∙ e }
+      -- it is in the set and outside the part, and something is left of its row
+      pub no_sum : is_outside (points s) (points b) a ≡ true → is_zero (row_of t'' k) ≡ false → NoSum t c k s b
+      no_sum o e = record { point = a; below = point; outside = o; left = ap is_zero (sym left) ∙ e }
 
-    -- it is in the set and outside the part, and nothing is left of its row
-    pub sums_yes : (t'' : List Row) → length t' ≡ 1024 → k < 512 → a < 512 → length ps ≡ 512 → Places ps k (512 + a)
-        → t'' ≡ followed c k a zero_row ps t' → is_zero (row_of t'' k) ≡ true → Sums t t'' c k ps s b (a + 1)
-    unfolding sum_at
-    sums_yes t'' long small point room apart rows none =
-        record {
-          kept = ap (take k) rows ∙ followed_front c k a zero_row ps t' long small point ∙ h.kept;
-          combinations = ap (λ x. map (row_of x) (take k ps)) rows ∙ followed_places c k a zero_row ps t' long small point room apart ∙ h.combinations;
-          later = λ j l. other j (omega arith) ∙ h.later j (omega arith);
-          sums = λ j l o. elim (dec_lt j a) [
-            | yes g ↦ other j (omega arith) ∙ h.sums j g o
-            | no g ↦ let i : j ≡ a = omega arith in ap (λ x. row_of t'' (512 + x)) i ∙ here ∙ ap (sum_at t c k ps) (sym i)
-          ];
-          nothing_left = λ j l o. elim (dec_lt j a) [
-            | yes g ↦ h.nothing_left j g o
-            | no g ↦ let i : j ≡ a = omega arith in ap (λ x. is_zero (reduce (take k t) (stored t c x)).left) i ∙ ap is_zero (sym (left t'' long small point rows)) ∙ none
-          ];
-        }
-      where
-        other : (j : ℕ) → (j ≡ a → ⊥) → row_of t'' (512 + j) ≡ row_of t' (512 + j)
-        other j g = ap (λ x. row_of x (512 + j)) rows ∙ followed_other c k a zero_row ps t' long small point (512 + j) (omega arith) (λ i. g (omega arith))
+      -- it is in the set and outside the part, and nothing is left of its row
+      pub sums_yes : length ps ≡ 512 → Places ps k (512 + a) → is_zero (row_of t'' k) ≡ true → Sums t t'' c k ps s b (a + 1)
+      unfolding sum_at
+      sums_yes room apart none =
+          record {
+            kept = ap (take k) rows ∙ followed_front c k a zero_row ps t' long small point ∙ h.kept;
+            combinations = ap (λ x. map (row_of x) (take k ps)) rows ∙ followed_places c k a zero_row ps t' long small point room apart ∙ h.combinations;
+            later = λ j l. other j (omega arith) ∙ h.later j (omega arith);
+            sums = λ j l o. elim (dec_lt j a) [
+              | yes g ↦ other j (omega arith) ∙ h.sums j g o
+              | no g ↦ let i : j ≡ a = omega arith in ap (λ x. row_of t'' (512 + x)) i ∙ here ∙ ap (sum_at t c k ps) (sym i)
+            ];
+            nothing_left = λ j l o. elim (dec_lt j a) [
+              | yes g ↦ h.nothing_left j g o
+              | no g ↦ let i : j ≡ a = omega arith in ap (λ x. is_zero (reduce (take k t) (stored t c x)).left) i ∙ ap is_zero (sym left) ∙ none
+            ];
+          }
+        where
+          other : (j : ℕ) → (j ≡ a → ⊥) → row_of t'' (512 + j) ≡ row_of t' (512 + j)
+          other j g = ap (λ x. row_of x (512 + j)) rows ∙ followed_other c k a zero_row ps t' long small point (512 + j) (omega arith) (λ i. g (omega arith))
 
-        here : row_of t'' (512 + a) ≡ sum_at t c k ps a
-        here =
-            ap (λ x. row_of x (512 + a)) rows
-            ∙ followed_sum c k a zero_row ps t' long small point room apart
-            ∙ ap₂ (λ (r : Reduced) x. add zero_row (total (chosen r.added x))) same h.combinations
+          here : row_of t'' (512 + a) ≡ sum_at t c k ps a
+          here =
+              ap (λ x. row_of x (512 + a)) rows
+              ∙ followed_sum c k a zero_row ps t' long small point room apart
+              ∙ ap₂ (λ (r : Reduced) x. add zero_row (total (chosen r.added x))) same h.combinations

@@ -10,7 +10,8 @@
 --   CertifyAccepts o n s f side d c   Certify accepts n taps, the set s and the table f at a side and a degree, lent buffers of the right lengths, and writes c
 use Rattle.std.specs.Prelude.{◌≡◌, Bool, true, false, not, List, [], ◌∷◌, ◌++◌, ℕ, eqb, length}
 use Rattle.refusal.specs.Refusal.{number_of}
-use Rattle.refusal.specs.Outcome.{Outcome, refused, accepted, Check, ◌otherwise◌, checked, left_by}
+use Rattle.refusal.specs.Outcome.{Outcome, refused, accepted, Check, ◌otherwise◌, checked, left_by, outcome_by}
+use Rattle.refusal.specs.Verdict.{Verdict}
 use Rattle.refusal.specs.declared.Refusal.TheVariants.{RanksDiffer}
 use Rattle.cube.specs.Mask.{points}
 use Rattle.packed.specs.Packed.{zeros}
@@ -18,8 +19,6 @@ use Rattle.matrix.specs.Kept.{kept_mask}
 use Rattle.filter.specs.Checks.{length_is, taps_of, degree_up_to, side_up_to_1, filter_lengths, filter_masks}
 use Rattle.immunity.specs.Judgement.{differs}
 use Rattle.immunity.specs.Certificate.{certificate}
-use Rattle.certify.specs.declared.CertifyAnswer.{CertifyAnswer}
-use Rattle.certify.specs.declared.CertifyAnswer.TheVariants.{Refused, Accepted}
 
 -- lengths, taps, the set's bytes, the table's bytes, the degree, the side
 abbrev pub certify_inputs : List ℕ → List ℕ → ℕ → ℕ → ℕ → ℕ → ℕ → List Check
@@ -50,12 +49,11 @@ cleared_unless (refused k) ws = zero_if (eqb k (number_of RanksDiffer)) ws
 cleared_unless (accepted c) ws = zeros (length ws)
 
 -- the number of an answer, or the certificate
-abbrev pub outcome_of : CertifyAnswer → List ℕ → Outcome (List ℕ)
-outcome_of (Refused x) c = refused (number_of x)
-outcome_of Accepted c = accepted c
+abbrev pub outcome_of : Verdict → List ℕ → Outcome (List ℕ)
+outcome_of r c = outcome_by r (λ u. c)
 
 -- what is answered, and how the workspace and the certificate are left
-pub record CertifyContract (o : Outcome (List ℕ)) (ws ws' c c' : List ℕ) (r : CertifyAnswer) : Type 0 where
+pub record CertifyContract (o : Outcome (List ℕ)) (ws ws' c c' : List ℕ) (r : Verdict) : Type 0 where
   pub answers : outcome_of r c' ≡ o
   pub leaves : ws' ≡ cleared_unless o ws
   pub leaves_certificate : c' ≡ left_by o c (λ x. x)

@@ -10,13 +10,12 @@ use native.Mathlib.Omega.{arith}
 use lib.Dec.{eqb, ltb, leb}
 use lib.ListN.{length, length-map, get_or}
 use lib.Pow.{pow_mono}
-use lib.Seq.{ext_get_or}
 use borrow.Author.Tests.{ltb-true, leb-true, lt-ltb, le-leb, not-false}
 use Rattle.cube.specs.NumberLists.{below, cons_if, select, lists, Inside}
 use Rattle.cube.specs.Cube.{size, within, weight}
 use Rattle.cube.specs.Mask.{member, points}
 use Rattle.cube.proofs.Listed.{and_both, same_test, lists_member, member_select, Distinct, distinct_select}
-use Rattle.cube.proofs.Masks.{length_from, value_at, member_points, points_distinct}
+use Rattle.cube.proofs.Masks.{length_from, value_at, values_told, member_points, points_distinct}
 use Rattle.order.specs.Order.{Graded, is_column}
 use Rattle.gf2.specs.Vector.{Row, entry, add, total, unit, Zero, OnlyAt, chosen}
 use Rattle.gf2.specs.Elimination.{is_zero}
@@ -42,17 +41,10 @@ use Rattle.checker.specs.CheckedRows.{others_row, columns_row, names_sum, checke
 -- the eight numbers of a point hold what the certificate names for it
 pub numbers_named : (c : List ℕ) (a : ℕ) → length c ≡ 4096 → a < 512 → unpack (words c a) ≡ named c a
 unfolding bit_of
-numbers_named c a long l = ext_get_or false (unpack (words c a)) (named c a) (wide ∙ sym (length-map (below 512) (bit_of c a) ∙ length_from 0 512)) (λ q h. at q (omega (arith, wide)))
-  where
-    wide : length (unpack (words c a)) ≡ 512
-    wide = length_unpack (words c a) ∙ ap (λ k. k * 64) (length_words c a (omega arith))
-
-    at : (q : ℕ) → q < 512 → entry (unpack (words c a)) q ≡ entry (named c a) q
-    at q h =
-        let place : a * 8 + q / 64 ≡ 8 * a + q / 64 = omega arith in
-        entry_word (words c a) q
-        ∙ ap (λ x. odd (x / 2 ^ (q % 64))) (get_or_words c a (q / 64) (omega arith) ∙ ap (λ i. get_or c i 0) place)
-        ∙ sym (value_at (bit_of c a) 512 q false h)
+numbers_named c a long l = values_told (bit_of c a) 512 false (unpack (words c a)) (length_unpack (words c a)) (λ q h.
+    let place : a * 8 + q / 64 ≡ 8 * a + q / 64 = omega arith in
+    entry_word (words c a) q (length_words c a (omega arith))
+    ∙ ap (λ x. odd (x / 2 ^ (q % 64))) (get_or_words c a (q / 64) (omega arith) ∙ ap (λ i. get_or c i 0) place))
 
 -- choosing by a test is selecting
 chosen_select : (t : ℕ → Bool) (xs : List ℕ) → chosen (map t xs) xs ≡ select t xs

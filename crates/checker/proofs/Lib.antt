@@ -1,4 +1,3 @@
 -- Laws of Check.
-pub mod BuiltRows
 pub mod Checked
 pub mod CheckedRows

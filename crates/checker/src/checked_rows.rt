@@ -1,116 +1,104 @@
 // The rows of a certificate, and whether what they name is right: by sums over supersets, so that no row of the matrix is
 // made. A row of a certificate is over points; `superset_sums` alone makes a row over exponents of one.
-ghost use Rattle.std.specs.Prelude.{◌≡◌, ◌≤◌, ◌<◌, length};
+ghost use Rattle.std.specs.Prelude.{◌≡◌, [], ℕ, ◌≤◌, ◌<◌, get_or};
 ghost use Rattle.cube.specs.NumberLists.{all_below};
-ghost use Rattle.gf2.specs.Vector.{add, unit};
-ghost use Rattle.packed.specs.Packed.{unpack, words};
+ghost use Rattle.gf2.specs.Vector.{entry, add, unit};
+ghost use Rattle.packed.specs.Packed.{unpack};
 ghost use Rattle.checker.specs.CheckedRows.{others_row, columns_row, names_sum, checked_row};
 
+use cube::mask::Mask;
 use cube::{Exponent, POINTS, Point, size};
 use filter::part::is_outside;
 use order::columns::is_column;
-use packed::ROW_WORDS;
-use packed::single::{disjoint, flip_column, is_zero};
+use packed::row::{disjoint, flip_column, is_zero};
+use packed::{COLUMNS, ROW_WORDS, Row};
 use superset_sums::{ExponentRow, PointRow, superset_sums};
 
-// The numbers below 512 that are no points of `part`, as a row over points.
-pub fn others_row(part: &[u8]) -> PointRow
-    requires { length part.now ≡ 512 }
-    ensures { (length result.0 ≡ 8) × (unpack result.0 ≡ others_row part.now) }
+// The row with a one in each column that passes the test.
+fn row_where<F: Fn(usize) -> bool>(passes: F) -> Row
+    requires { (c : ℕ) → c < 512 → F.pre passes c }
+    ensures { (c : ℕ) → c < 512 → F.post passes c (entry (unpack result) c) }
 {
     let mut row = [0u64; ROW_WORDS];
-    let mut q: usize = 0;
-    while q < POINTS {
-        if part[q] != 1 {
-            flip_column(&mut row, q);
+    for c in 0..COLUMNS {
+        if passes(c) {
+            flip_column(&mut row, c);
         }
-        q += 1;
     }
-    PointRow(row)
+    row
+}
+
+// The numbers below 512 that are no points of `part`, as a row over points.
+pub fn others_row(part: &Mask) -> PointRow
+    ensures { unpack result.0 ≡ others_row part.now }
+{
+    PointRow(row_where(|q| part[q] != 1))
 }
 
 // The exponents of `n` taps that weigh at most `d`, as a row over exponents.
 pub fn columns_row(n: usize, d: u16) -> ExponentRow
     requires { n ≤ 9 }
-    ensures { (length result.0 ≡ 8) × (unpack result.0 ≡ columns_row n d) }
+    ensures { unpack result.0 ≡ columns_row n d }
 {
     let points = size(n);
-    let mut row = [0u64; ROW_WORDS];
-    let mut u: usize = 0;
-    while u < POINTS {
-        if is_column(Exponent(u as u16), points, d) {
-            flip_column(&mut row, u);
-        }
-        u += 1;
-    }
-    ExponentRow(row)
+    ExponentRow(row_where(|u| is_column(Exponent(u as u16), points, d)))
 }
 
 // The row over points with the point `a` added.
-fn with_point(row: &[u64], a: Point) -> PointRow
-    requires { (length row.now ≡ 8) × (a.0 < 512) }
-    ensures { (length result.0 ≡ 8) × (unpack result.0 ≡ add (unpack row.now) (unit a.0)) }
+#[tactic(auto, unfolding(gf2::specs::Solve::flip))]
+fn with_point(row: &Row, a: Point) -> PointRow
+    requires { a.0 < 512 }
+    ensures { unpack result.0 ≡ add (unpack row.now) (unit a.0) }
 {
-    let mut sum = [0u64; ROW_WORDS];
-    let mut k: usize = 0;
-    while k < ROW_WORDS {
-        sum[k] = row[k];
-        k += 1;
-    }
+    let mut sum = *row;
     flip_column(&mut sum, a.0 as usize);
     PointRow(sum)
 }
 
 // Whether the row over points names none of `others`, and the rows of the points that it names sum to that of `a`: no
 // superset sum of these points and of `a` is one at an exponent of `columns`.
-fn names_sum(row: &[u64], others: PointRow, columns: ExponentRow, a: Point) -> bool
-    requires { (length row.now ≡ 8) × (length others.0 ≡ 8) × (length columns.0 ≡ 8) × (a.0 < 512) }
+#[tactic(auto, unfolding(crate::specs::CheckedRows::names_sum))]
+fn names_sum(row: &Row, others: PointRow, columns: ExponentRow, a: Point) -> bool
+    requires { a.0 < 512 }
     ensures { result ≡ names_sum (unpack row.now) (unpack others.0) (unpack columns.0) a.0 }
 {
-    if disjoint(row, &others.0) {
-        let sums = superset_sums(with_point(row, a));
-        return disjoint(&sums.0, &columns.0);
-    }
-    false
+    disjoint(row, &others.0) && disjoint(&superset_sums(with_point(row, a)).0, &columns.0)
 }
 
 // Whether what the row over points names for the point `a` is right.
+#[tactic(auto, unfolding(crate::specs::CheckedRows::checked_row))]
 fn row_right(
-    row: &[u64],
-    set: &[u8],
-    part: &[u8],
+    row: &Row,
+    set: &Mask,
+    part: &Mask,
     others: PointRow,
     columns: ExponentRow,
     a: Point,
 ) -> bool
-    requires { (length row.now ≡ 8) × (length set.now ≡ 512) × (length part.now ≡ 512) × (length others.0 ≡ 8) × (length columns.0 ≡ 8) × (a.0 < 512) }
+    requires { a.0 < 512 }
     ensures { result ≡ checked_row set.now part.now (unpack others.0) (unpack columns.0) (unpack row.now) a.0 }
 {
     if is_outside(set, part, a) {
-        return names_sum(row, others, columns, a);
+        names_sum(row, others, columns, a)
+    } else {
+        is_zero(row)
     }
-    is_zero(row)
 }
 
 // Whether what the certificate names is right for every point.
 pub fn rows_right(
-    certificate: &[u64],
-    set: &[u8],
-    part: &[u8],
+    certificate: &[Row; POINTS],
+    set: &Mask,
+    part: &Mask,
     others: PointRow,
     columns: ExponentRow,
 ) -> bool
-    requires { (length certificate.now ≡ 4096) × (length set.now ≡ 512) × (length part.now ≡ 512) × (length others.0 ≡ 8) × (length columns.0 ≡ 8) }
-    ensures { result ≡ all_below 512 (λ a. checked_row set.now part.now (unpack others.0) (unpack columns.0) (unpack (words certificate.now a)) a) }
+    ensures { result ≡ all_below 512 (λ a. checked_row set.now part.now (unpack others.0) (unpack columns.0) (unpack (get_or certificate.now a [])) a) }
 {
-    let mut a: usize = 0;
-    while a < POINTS {
-        let from = a * ROW_WORDS;
-        let row = &certificate[from..from + ROW_WORDS];
+    for (a, row) in certificate.iter().enumerate() {
         if !row_right(row, set, part, others, columns, Point(a as u16)) {
             return false;
         }
-        a += 1;
     }
     true
 }

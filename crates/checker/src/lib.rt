@@ -2,31 +2,22 @@
 #![tactic(auto)]
 
 ghost use Rattle.std.specs.Prelude.{◌≡◌, length};
-ghost use Rattle.refusal.specs.Outcome.{accepted};
 ghost use Rattle.refusal.specs.Verdict.{verdict};
-ghost use Rattle.refusal.specs.declared.verdict.Verdict.TheVariants.{Passed};
 ghost use Rattle.cube.specs.Mask.{points};
 ghost use Rattle.order.specs.BuiltIn.{graded};
 ghost use Rattle.filter.specs.Part.{part as part_of};
 ghost use Rattle.immunity.specs.CertificateTest.{certifies};
-ghost use Rattle.checker.specs.Check.{check_inputs, outcome_of, CheckContract};
+ghost use Rattle.checker.specs.Check.{check_inputs, CheckContract};
 
 use crate::checked_rows::{columns_row, others_row, rows_right};
+use cube::POINTS;
 use filter::checks::{check_at_degree, check_filter_lengths, check_length, check_taps};
 use filter::part::part_mask;
 use immunity::CERTIFICATE;
+use packed::ROW_WORDS;
 use refusal::Refusal;
-use refusal::verdict::Verdict;
 
 mod checked_rows; // checked_rows.rt: the rows of a certificate, checked
-
-// What Check answers.
-#[derive(Clone, Copy)]
-pub enum CheckAnswer {
-    Refused(Refusal),
-    Yes,
-    No,
-}
 
 // Whether the numbers are a certificate of `side` at degree `d`: for each point of `set` outside the side's part they name
 // points of the part whose rows sum to its row, and nothing else.
@@ -37,23 +28,11 @@ pub fn check(
     side: u8,
     d: usize,
     certificate: &[u64],
-) -> CheckAnswer
+) -> Result<bool, Refusal>
     ensures { CheckContract graded set.now table.now n side d certificate.now result }
 {
-    match check_inputs(set, table, n, side, d, certificate.len()) {
-        Verdict::Refused(x) => CheckAnswer::Refused(x),
-        Verdict::Passed => answer_of(is_certificate(set, table, n, side, d, certificate)),
-    }
-}
-
-// Yes or no.
-fn answer_of(yes: bool) -> CheckAnswer
-    ensures { outcome_of result ≡ accepted yes }
-{
-    if yes {
-        return CheckAnswer::Yes;
-    }
-    CheckAnswer::No
+    check_inputs(set, table, n, side, d, certificate.len())?;
+    Ok(is_certificate(set, table, n, side, d, certificate))
 }
 
 // The checks: lengths, the taps, the bytes of the set and of the table, the degree, the side.
@@ -64,13 +43,13 @@ fn check_inputs(
     side: u8,
     d: usize,
     certificate: usize,
-) -> Verdict
+) -> Result<(), Refusal>
     ensures { result ≡ verdict (check_inputs set.now table.now n side d certificate) }
 {
-    let v = check_filter_lengths(Verdict::Passed, set, table);
-    let v = check_length(v, certificate, CERTIFICATE);
-    let v = check_taps(v, n);
-    check_at_degree(v, set, table, n, side, d)
+    check_filter_lengths(set, table)?;
+    check_length(certificate, CERTIFICATE)?;
+    check_taps(n)?;
+    check_at_degree(set, table, n, side, d)
 }
 
 // Whether the numbers are a certificate, of inputs that passed the checks.
@@ -82,11 +61,15 @@ fn is_certificate(
     d: usize,
     certificate: &[u64],
 ) -> bool
-    requires { verdict (check_inputs set.now table.now n side d (length certificate.now)) ≡ Passed }
+    requires { verdict (check_inputs set.now table.now n side d (length certificate.now)) ≡ Ok tt }
     ensures { result ≡ certifies graded n d (points set.now) (part_of side set.now table.now) certificate.now }
 {
+    let set = set.as_array::<POINTS>().unwrap();
+    let table = table.as_array::<POINTS>().unwrap();
     let part = part_mask(set, table, side);
     let others = others_row(&part);
     let columns = columns_row(n, d as u16);
-    rows_right(certificate, set, &part, others, columns)
+    let (rows, _) = certificate.as_chunks::<ROW_WORDS>();
+    let rows = rows.as_array::<POINTS>().unwrap();
+    rows_right(rows, set, &part, others, columns)
 }

@@ -12,8 +12,8 @@ use native.Mathlib.Decide.{dec_lt}
 use native.Mathlib.Omega.{arith}
 use lib.Dec.{leb}
 use lib.ListN.{length, get_or, length-map, get_or-eq_default}
-use Rattle.cube.specs.NumberLists.{below}
-use Rattle.cube.specs.Mask.{points}
+use Rattle.cube.specs.NumberLists.{below, Inside}
+use Rattle.cube.specs.Cube.{size}
 use Rattle.cube.proofs.Masks.{member_from, length_from, value_at}
 use Rattle.order.specs.Order.{Graded}
 use Rattle.order.proofs.DegreeColumns.{length_columns}
@@ -32,7 +32,7 @@ use Rattle.immunity.specs.declared.Ranks.{Ranks}
 use Rattle.immunity.specs.Judgement.{summed}
 use Rattle.immunity.specs.Ranks.{ranks_if, ranks_in}
 use Rattle.degree_ranks.specs.Cut.{number_if, up_to, column_count, column_counts, rank_cut, additions_cut}
-use Rattle.degree_ranks.specs.Ready.{Ready, Marks}
+use Rattle.degree_ranks.specs.Ready.{Ready}
 use Rattle.degree_ranks.proofs.Degrees.{up_to_here, up_to_past, up_to_same, summed_same}
 
 -- no degree has more than 512 columns
@@ -48,29 +48,29 @@ counts_few {o} g n d = elim (dec_lt d 10) [
       | no h ↦ omega (arith, up_to_here n (column_count o n) d (omega arith), length_columns g n d)
     ]
 
-module _ {o : List ℕ} {n : ℕ} {ws s : List ℕ} (r : Ready o n ws) (m : Marks n s) where
+module _ {o : List ℕ} (g : Graded o) {n : ℕ} {ws : List (List ℕ)} (r : Ready o n ws) (ps : List ℕ) (m : Inside (size n) ps) where
   -- the elimination at a degree
-  eliminated_at : (d : ℕ) → d ≤ n → eliminate (stored (unpacked ws) (column_count o n d)) (points s) ≡ widened 512 (eliminated o n d (points s))
-  eliminated_at d l = stored_elimination r.ordered n d r.small l (unpacked ws) r.rows (points s) m.inside
+  eliminated_at : (d : ℕ) → d ≤ n → eliminate (stored (unpacked ws) (column_count o n d)) ps ≡ widened 512 (eliminated o n d ps)
+  eliminated_at d l = stored_elimination g n d r.small l (unpacked ws) r.rows ps m
 
   -- the kept points are those of the definition
-  pub points_at_degree : (d : ℕ) → d ≤ n → (eliminate (stored (unpacked ws) (column_count o n d)) (points s)).points ≡ kept_points o n d (points s)
+  pub points_at_degree : (d : ℕ) → d ≤ n → (eliminate (stored (unpacked ws) (column_count o n d)) ps).points ≡ kept_points o n d ps
   points_at_degree d l = ap (λ (x : Elimination). x.points) (eliminated_at d l)
 
   module _ {cs : List ℕ} (counted : cs ≡ column_counts o n) where
     -- the same where the columns are counted
-    eliminated_cut : (d : ℕ) → d ≤ n → eliminate (stored (unpacked ws) (get_or cs d 0)) (points s) ≡ widened 512 (eliminated o n d (points s))
+    eliminated_cut : (d : ℕ) → d ≤ n → eliminate (stored (unpacked ws) (get_or cs d 0)) ps ≡ widened 512 (eliminated o n d ps)
     eliminated_cut d l =
         let here : get_or cs d 0 ≡ column_count o n d =
         ap (λ x. get_or x d 0) counted ∙ value_at (up_to n (column_count o n)) 10 d 0 (omega (arith, r.small)) ∙ up_to_here n (column_count o n) d l in
-        ap (λ c. eliminate (stored (unpacked ws) c) (points s)) here ∙ eliminated_at d l
+        ap (λ c. eliminate (stored (unpacked ws) c) ps) here ∙ eliminated_at d l
 
     -- the ranks are those of the points
-    pub ranks_cut : map (up_to n (rank_cut (unpacked ws) (points s) cs)) (below 10) ≡ map (up_to n (λ d. rank_of o n d (points s))) (below 10)
-    ranks_cut = up_to_same n _ _ (λ d l. ap (λ (x : Elimination). length x.kept) (eliminated_cut d l) ∙ length-map (eliminated o n d (points s)).kept (padded 512))
+    pub ranks_cut : map (up_to n (rank_cut (unpacked ws) ps cs)) (below 10) ≡ map (up_to n (λ d. rank_of o n d ps)) (below 10)
+    ranks_cut = up_to_same n _ _ (λ d l. ap (λ (x : Elimination). length x.kept) (eliminated_cut d l) ∙ length-map (eliminated o n d ps).kept (padded 512))
 
     -- so are the additions
-    pub additions_cut_lem : summed (additions_cut (unpacked ws) (points s) cs) (below (n + 1)) ≡ summed (λ d. (eliminated o n d (points s)).additions) (below (n + 1))
+    pub additions_cut_lem : summed (additions_cut (unpacked ws) ps cs) (below (n + 1)) ≡ summed (λ d. (eliminated o n d ps).additions) (below (n + 1))
     additions_cut_lem = summed_same n _ _ (λ d l. ap (λ (x : Elimination). x.additions) (eliminated_cut d l))
 
 -- three numbers, or all 0

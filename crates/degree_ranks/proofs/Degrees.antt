@@ -1,86 +1,49 @@
 -- The degrees up to n, one after the other.
---   degrees_from n d     the degrees from d on up to n: what a loop has yet to pass
---   degrees_all         from 0 on they are all
---   degrees_here        d is the first of them
---   degrees_none        past n there is none
---   ValuesTo z f d xs   ten values: those that f gives at the degrees below d, and z from d on
---   values_none         a list that is all z has those of no degree
---   values_next         those of one degree more
---   values_all          all of them
---   up_to_here          the number at a degree up to n
---   up_to_past          there is none past n
---   up_to_same          functions that agree on the degrees up to n have the same numbers
---   summed_same         and the same sum
---   summed_three        the sum of three numbers for each member
+--   place_found       the first place up to n, of a list, whose value passes a test is the first degree whose value does
+--   up_to_here        the number at a degree up to n
+--   up_to_past        there is none past n
+--   ValuesTo f d xs   ten numbers: those that f gives at the degrees below d, and 0 from d on
+--   values_none       ten zeros are those of no degree
+--   values_next       those of one degree more
+--   values_all        all of them
+--   summed_next       the sum over one degree more
+--   up_to_same        functions that agree on the degrees up to n have the same numbers
+--   summed_same       and the same sum
+--   summed_three      the sum of three numbers for each member
 use mathlib.Core.Path.{◌≡◌, refl, sym, ap, ap₂, ◌∙◌}
-use mathlib.Core.List.{List, [], ◌∷◌, map}
-use Prim.Native.Nat.{ℕ, suc, ◌+◌, ◌-◌, ◌≤◌, ◌<◌}
+use mathlib.Core.Bool.{Bool, cond}
+use mathlib.Core.List.{List, [], ◌∷◌, ◌++◌, map}
+use Prim.Native.Nat.{ℕ, zero, suc, ◌+◌, ◌≤◌, ◌<◌}
 use native.Mathlib.Decide.{dec_lt}
 use native.Mathlib.Numerals.{add-one}
 use native.Mathlib.Omega.{arith}
-use lib.Dec.{leb}
-use lib.ListN.{length, get_or, set, replicate, length-set, length-map, length-replicate, get_or-replicate, get_or-eq_default}
-use lib.Seq.{get_or-set_same, get_or-set_other, ext_get_or}
+use lib.Dec.{leb, ltb}
+use lib.ListN.{length, get_or, take, drop, set, replicate, length-set, length-map, length-replicate, get_or-replicate, get_or-eq_default}
+use lib.Seq.{drop-cons, get_or-set_same, get_or-set_other, ext_get_or}
 use borrow.Author.Count.{below_more}
 use borrow.Author.Tests.{le-leb, lt-leb}
+use Rattle.std.specs.Prelude.{None, Some}
+use Rattle.std.specs.List.{find, position_from, position_or_len}
+use Rattle.std.proofs.lemmas.Iterator.Adapters.{position_from-zero}
 use Rattle.cube.specs.NumberLists.{up_from, below}
-use Rattle.cube.proofs.Masks.{length_from, value_at}
+use Rattle.cube.proofs.Masks.{below_snoc, length_from, value_at}
 use Rattle.gf2.specs.Vector.{Each}
 use Rattle.gf2.proofs.Each.{member_each, map_each}
 use Rattle.immunity.specs.Judgement.{summed}
 use Rattle.immunity.proofs.FirstUpTo.{degree_below}
 use Rattle.degree_ranks.specs.Cut.{number_if, up_to}
 
--- the degrees from d on up to n
-abbrev pub degrees_from : ℕ → ℕ → List ℕ
-degrees_from n d = up_from d (n + 1 - d)
-
-module _ (n : ℕ) where
-  -- from 0 on they are all
-  pub degrees_all : below (n + 1) ≡ degrees_from n 0
-  degrees_all = let z : n + 1 ≡ n + 1 - 0 = omega arith in ap below z
-
-  -- d is the first of them
-  pub degrees_here : (d : ℕ) → d ≤ n → degrees_from n d ≡ d ∷ degrees_from n (d + 1)
+module _ {A : Type 0} (t : A → Bool) (z : A) (xs : List A) where
+  -- the first of k places from i on whose value passes
+  place_from : (k i : ℕ) → i + k ≤ length xs → position_from t i (take k (drop i xs)) ≡ find (λ d. t (get_or xs d z)) (up_from i k)
   unfolding up_from
-  degrees_here d l = let z : n + 1 - d ≡ suc (n + 1 - (d + 1)) = omega arith in
-      rw z (ap (λ x. d ∷ up_from x (n + 1 - (d + 1))) (sym (add-one d)))
+  place_from zero i l = refl
+  place_from (suc k) i l = rw (drop-cons xs i z (omega arith), ← add-one i) (ap (λ x. cond (t (get_or xs i z)) (Some i) x) (place_from k (i + 1) (omega arith)))
 
-  -- past n there is none
-  pub degrees_none : (d : ℕ) → n < d → degrees_from n d ≡ []
-  unfolding up_from
-  degrees_none d l = let z : n + 1 - d ≡ 0 = omega arith in rw z
-
--- the values at the degrees below d, then z
-pub record ValuesTo {A : Type 0} (z : A) (f : ℕ → A) (d : ℕ) (xs : List A) : Type 0 where
-  pub long : length xs ≡ 10
-  pub found : (k : ℕ) → k < d → get_or xs k z ≡ f k
-  pub others : (k : ℕ) → d ≤ k → get_or xs k z ≡ z
-
-module _ {A : Type 0} (z : A) (f : ℕ → A) where
-  -- all z
-  pub values_none : ValuesTo z f 0 (replicate 10 z)
-  values_none = record {
-    long = length-replicate 10 z;
-    found = λ k l. absurd (omega arith);
-    others = λ k l. elim (dec_lt k 10) [ yes h ↦ get_or-replicate 10 k z z h | no h ↦ get_or-eq_default (replicate 10 z) z {n = k} (omega (arith, length-replicate 10 z)) ];
-  }
-
-  -- one degree more
-  pub values_next : (d : ℕ) (xs : List A) (x : A) → d < 10 → x ≡ f d → ValuesTo z f d xs → ValuesTo z f (d + 1) (set xs d x)
-  values_next d xs x l e r = record {
-    long = length-set xs d x ∙ r.long;
-    found = below_more _ d (λ k q. get_or-set_other xs d k x z (omega arith) ∙ r.found k q) (get_or-set_same xs d x z (omega (arith, r.long)) ∙ e);
-    others = λ k q. get_or-set_other xs d k x z (omega arith) ∙ r.others k (omega arith);
-  }
-
-  -- all of them, where f gives z from d on
-  pub values_all : (d : ℕ) (xs : List A) → ((k : ℕ) → d ≤ k → k < 10 → f k ≡ z) → ValuesTo z f d xs → xs ≡ map f (below 10)
-  values_all d xs past r = ext_get_or z xs (map f (below 10)) (r.long ∙ sym (length-map (below 10) f ∙ length_from 0 10))
-      (λ k l. at k (omega (arith, r.long)) ∙ sym (value_at f 10 k z (omega (arith, r.long))))
-    where
-      at : (k : ℕ) → k < 10 → get_or xs k z ≡ f k
-      at k l = elim (dec_lt k d) [ yes h ↦ r.found k h | no h ↦ r.others k (omega arith) ∙ sym (past k (omega arith) l) ]
+  -- the first place up to n
+  pub place_found : (n : ℕ) → n < length xs
+      → cond (ltb (position_or_len t (take (n + 1) xs)) (length (take (n + 1) xs))) (Some (position_or_len t (take (n + 1) xs))) None ≡ find (λ d. t (get_or xs d z)) (below (n + 1))
+  place_found n l = position_from-zero t (take (n + 1) xs) ∙ place_from (n + 1) 0 (omega arith)
 
 module _ (n : ℕ) (f : ℕ → ℕ) (d : ℕ) where
   -- the number at a degree up to n
@@ -92,6 +55,47 @@ module _ (n : ℕ) (f : ℕ → ℕ) (d : ℕ) where
   pub up_to_past : n < d → up_to n f d ≡ 0
   unfolding number_if
   up_to_past l = rw (lt-leb d n l)
+
+-- the values at the degrees below d, then 0
+pub record ValuesTo (f : ℕ → ℕ) (d : ℕ) (xs : List ℕ) : Type 0 where
+  pub long : length xs ≡ 10
+  pub found : (k : ℕ) → k < d → get_or xs k 0 ≡ f k
+  pub others : (k : ℕ) → d ≤ k → get_or xs k 0 ≡ 0
+
+module _ (f : ℕ → ℕ) where
+  -- ten zeros
+  pub values_none : ValuesTo f 0 (replicate 10 0)
+  values_none = record {
+    long = length-replicate {A = ℕ} 10 0;
+    found = λ k l. absurd (omega arith);
+    others = λ k l. elim (dec_lt k 10) [ yes h ↦ get_or-replicate 10 k 0 0 h | no h ↦ get_or-eq_default (replicate 10 0) 0 {n = k} (omega (arith, length-replicate {A = ℕ} 10 0)) ];
+  }
+
+  -- one degree more
+  pub values_next : (d : ℕ) (xs : List ℕ) (x : ℕ) → d < 10 → x ≡ f d → ValuesTo f d xs → ValuesTo f (d + 1) (set xs d x)
+  values_next d xs x l e r = record {
+    long = length-set xs d x ∙ r.long;
+    found = below_more _ d (λ k q. get_or-set_other xs d k x 0 (omega arith) ∙ r.found k q) (get_or-set_same xs d x 0 (omega (arith, r.long)) ∙ e);
+    others = λ k q. get_or-set_other xs d k x 0 (omega arith) ∙ r.others k (omega arith);
+  }
+
+  -- all of them, where d is the last degree
+  pub values_all : (n d : ℕ) (xs : List ℕ) → d ≡ n → ValuesTo f (d + 1) xs → xs ≡ map (up_to n f) (below 10)
+  values_all n d xs e r = ext_get_or 0 xs (map (up_to n f) (below 10)) (r.long ∙ sym (length-map (below 10) (up_to n f) ∙ length_from 0 10))
+      (λ k l. at k ∙ sym (value_at (up_to n f) 10 k 0 (omega (arith, r.long))))
+    where
+      at : (k : ℕ) → get_or xs k 0 ≡ up_to n f k
+      at k = elim (dec_lt n k) [ yes h ↦ r.others k (omega arith) ∙ sym (up_to_past n f k h) | no h ↦ r.found k (omega arith) ∙ sym (up_to_here n f k (omega arith)) ]
+
+-- the sum with one number more
+summed_snoc : (t : ℕ → ℕ) (xs : List ℕ) (d : ℕ) → summed t (xs ++ (d ∷ [])) ≡ summed t xs + t d
+unfolding summed
+summed_snoc t [] d = omega arith
+summed_snoc t (x ∷ xs) d = omega (arith, summed_snoc t xs d)
+
+-- the sum over one degree more
+pub summed_next : (t : ℕ → ℕ) (d : ℕ) → summed t (below (d + 1)) ≡ summed t (below d) + t d
+summed_next t d = ap (summed t) (below_snoc d) ∙ summed_snoc t (below d) d
 
 -- numbers that are equal for each member have equal sums
 each_summed : (f g : ℕ → ℕ) (xs : List ℕ) → Each (λ d. f d ≡ g d) xs → summed f xs ≡ summed g xs

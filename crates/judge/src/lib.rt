@@ -3,35 +3,30 @@
 #![tactic(auto)]
 
 ghost use Rattle.std.specs.Prelude.{◌≡◌, false, ◌≤◌, length, replicate};
-ghost use Rattle.std.proofs.Math.Option.{none};
 ghost use Rattle.cube.specs.NumberLists.{is_empty};
 ghost use Rattle.cube.specs.Mask.{points, byte, mask};
 ghost use Rattle.refusal.specs.Verdict.{verdict};
-ghost use Rattle.refusal.specs.declared.verdict.Verdict.TheVariants.{Passed};
-ghost use Rattle.order.specs.Order.{Graded};
 ghost use Rattle.order.specs.BuiltIn.{graded};
 ghost use Rattle.packed.specs.Packed.{zeros};
 ghost use Rattle.filter.specs.Sides.{pair};
 ghost use Rattle.immunity.specs.Ranks.{no_ranks, part_differs};
 ghost use Rattle.immunity.specs.Witness.{new_point, witness_at};
 ghost use Rattle.degree_ranks.specs.Ready.{Ready, Marks};
-ghost use Rattle.judge.specs.declared.Finding.TheVariants.{NoPoint};
 ghost use Rattle.judge.specs.Judge.{judge_checks, judge_outcome, JudgeContract};
 
 use cube::POINTS;
-use cube::mask::is_empty;
+use cube::mask::{Mask, is_empty};
 use degree_ranks::{DEGREES, FoundDegrees, all_ranks, found_degrees, part_differs, side_of};
 use filter::checks::{check_filter_lengths, check_filter_masks, check_length, check_taps};
 use filter::part::part_mask;
-use immunity::{FirstDegree, Ranks};
-use matrix::kept::{clear_bytes, mark_below};
+use immunity::Ranks;
+use matrix::kept::mark_below;
 use order::columns::column_count;
-use order::graded_order;
-use packed::row::clear;
-use packed::{COLUMNS, WORKSPACE};
+use order::{Order, graded_order};
+use packed::workspace::rows;
+use packed::{COLUMNS, Rows, WORKSPACE};
 use point_rows::fill_rows;
 use refusal::Refusal;
-use refusal::verdict::Verdict;
 use witness::write_side;
 
 // What Judge reports of a set with a point, beside the ranks; `one` is side 1's own degree, `zero` side 0's.
@@ -40,24 +35,17 @@ pub struct Report {
     pub mark: usize,
     pub degree: usize,
     pub side: u8,
-    pub one: FirstDegree,
-    pub zero: FirstDegree,
+    pub one: Option<usize>,
+    pub zero: Option<usize>,
     pub additions: u32,
 }
 
-// What Judge found. A set without a point has no mark, no degree, no side and no degree of either side, and there are 0
-// additions.
-#[derive(Clone, Copy)]
-pub enum Finding {
-    Refused(Refusal),
-    NoPoint,
-    Judged(Report),
-}
-
-// What Judge answers: the finding, and the ranks at each degree, all 0 past n, without a point and where Judge refuses.
+// What Judge answers of a set and a table that pass its checks: the report, and the ranks at each degree, all 0 past n. A
+// set without a point has no report: no mark, no degree, no side, no degree of either side, and 0 additions; its ranks are
+// all 0.
 #[derive(Clone, Copy)]
 pub struct JudgeAnswer {
-    pub finding: Finding,
+    pub report: Option<Report>,
     pub ranks: [Ranks; 10],
 }
 
@@ -73,11 +61,11 @@ pub fn judge(
     one: &mut [u8],
     zero: &mut [u8],
     kept: &mut [u8],
-) -> JudgeAnswer
+) -> Result<JudgeAnswer, Refusal>
     ensures { JudgeContract (judge_outcome graded set.now table.now n (length workspace.old) (length one.old) (length zero.old) (length kept.old))
         workspace.old workspace.new (pair one.old zero.old) (pair one.new zero.new) kept.old kept.new result }
 {
-    match judge_checks(
+    judge_checks(
         set,
         table,
         n,
@@ -85,16 +73,12 @@ pub fn judge(
         one.len(),
         zero.len(),
         kept.len(),
-    ) {
-        Verdict::Refused(x) => without_ranks(Finding::Refused(x)),
-        Verdict::Passed => {
-            if is_empty(set) {
-                return judge_no_point(workspace, one, zero, kept);
-            }
-            let order = graded_order();
-            judge_points(set, table, n, &order, workspace, one, zero, kept)
-        }
+    )?;
+    if is_empty(set) {
+        return Ok(judge_no_point(workspace, one, zero, kept));
     }
+    let order = graded_order();
+    Ok(judge_points(set, table, n, &order, workspace, one, zero, kept))
 }
 
 // The checks: lengths, the taps, the bytes of the set and of the table.
@@ -106,24 +90,33 @@ fn judge_checks(
     one: usize,
     zero: usize,
     kept: usize,
-) -> Verdict
+) -> Result<(), Refusal>
     ensures { result ≡ verdict (judge_checks set.now table.now n workspace one zero kept) }
 {
-    let v = check_filter_lengths(Verdict::Passed, set, table);
-    let v = check_length(v, workspace, WORKSPACE);
-    let v = check_length(v, one, POINTS);
-    let v = check_length(v, zero, POINTS);
-    let v = check_length(v, kept, POINTS);
-    let v = check_taps(v, n);
-    check_filter_masks(v, set, table, n)
+    check_filter_lengths(set, table)?;
+    check_length(workspace, WORKSPACE)?;
+    check_length(one, POINTS)?;
+    check_length(zero, POINTS)?;
+    check_length(kept, POINTS)?;
+    check_taps(n)?;
+    check_filter_masks(set, table, n)
 }
 
-// A finding where all ranks are 0.
-fn without_ranks(finding: Finding) -> JudgeAnswer
-    ensures { (result.finding ≡ finding) × (result.ranks ≡ replicate 10 no_ranks) }
+// Judge of a set without a point: the workspace, the witness buffers and `kept` become zero.
+#[tactic(auto, unfolding(packed::specs::Packed::zeros))]
+fn judge_no_point(ws: &mut [u64], one: &mut [u8], zero: &mut [u8], kept: &mut [u8]) -> JudgeAnswer
+    ensures no_point_found { (result.report ≡ None) × (result.ranks ≡ replicate 10 no_ranks) }
+    ensures ws_cleared { ws.new ≡ zeros (length ws.old) }
+    ensures one_cleared { one.new ≡ zeros (length one.old) }
+    ensures zero_cleared { zero.new ≡ zeros (length zero.old) }
+    ensures kept_cleared { kept.new ≡ zeros (length kept.old) }
 {
+    ws.fill(0);
+    one.fill(0);
+    zero.fill(0);
+    kept.fill(0);
     JudgeAnswer {
-        finding,
+        report: None,
         ranks: [Ranks {
             set: 0,
             one: 0,
@@ -132,41 +125,32 @@ fn without_ranks(finding: Finding) -> JudgeAnswer
     }
 }
 
-// Judge of a set without a point: the workspace, the witness buffers and `kept` become zero.
-fn judge_no_point(ws: &mut [u64], one: &mut [u8], zero: &mut [u8], kept: &mut [u8]) -> JudgeAnswer
-    ensures no_point_found { (result.finding ≡ NoPoint) × (result.ranks ≡ replicate 10 no_ranks) }
-    ensures ws_cleared { ws.new ≡ zeros (length ws.old) }
-    ensures one_cleared { one.new ≡ zeros (length one.old) }
-    ensures zero_cleared { zero.new ≡ zeros (length zero.old) }
-    ensures kept_cleared { kept.new ≡ zeros (length kept.old) }
-{
-    clear(ws);
-    clear_bytes(one);
-    clear_bytes(zero);
-    clear_bytes(kept);
-    without_ranks(Finding::NoPoint)
-}
-
 // Judge of a set with a point and a table that passed the checks, the columns in the order lent; the workspace is then
 // zero.
 fn judge_points(
     set: &[u8],
     table: &[u8],
     n: usize,
-    order: &[u16],
-    ws: &mut [u64],
+    order: &Order,
+    workspace: &mut [u64],
     one: &mut [u8],
     zero: &mut [u8],
     kept: &mut [u8],
 ) -> JudgeAnswer
-    requires { (verdict (judge_checks set.now table.now n (length ws.old) (length one.old) (length zero.old) (length kept.old)) ≡ Passed) × (is_empty (points set.now) ≡ false) × Graded order.now }
-    ensures { JudgeContract (judge_outcome order.now set.now table.now n (length ws.old) (length one.old) (length zero.old) (length kept.old))
-        ws.old ws.new (pair one.old zero.old) (pair one.new zero.new) kept.old kept.new result }
+    requires { (verdict (judge_checks set.now table.now n (length workspace.old) (length one.old) (length zero.old) (length kept.old)) ≡ Ok tt) × (is_empty (points set.now) ≡ false) }
+    ensures { JudgeContract (judge_outcome order.now.list set.now table.now n (length workspace.old) (length one.old) (length zero.old) (length kept.old))
+        workspace.old workspace.new (pair one.old zero.old) (pair one.new zero.new) kept.old kept.new (Ok result) }
 {
+    let set = set.as_array::<POINTS>().unwrap();
+    let table = table.as_array::<POINTS>().unwrap();
+    let one = one.as_mut_array::<POINTS>().unwrap();
+    let zero = zero.as_mut_array::<POINTS>().unwrap();
+    let kept = kept.as_mut_array::<POINTS>().unwrap();
     let part_one = part_mask(set, table, 1);
     let part_zero = part_mask(set, table, 0);
     let mut pivots = [0u16; COLUMNS];
     let mut points = [0u16; COLUMNS];
+    let ws = rows(workspace);
     fill_rows(ws, order, n);
     let found = all_ranks(
         ws,
@@ -185,23 +169,23 @@ fn judge_points(
     let columns = column_count(order, n, k as u16);
     mark_below(&pivots, &points, found.kept, columns, kept);
     write_witnesses(ws, order, set, &part_one, &part_zero, n, k, here, one, zero);
-    clear(ws);
-    let finding = Finding::Judged(report_found(degrees, here, found.additions));
-    JudgeAnswer { finding, ranks }
+    workspace.fill(0);
+    JudgeAnswer {
+        report: Some(report_found(degrees, here, found.additions)),
+        ranks,
+    }
 }
 
 // The report: the mark and the degrees found, the side by the ranks `here` at the reported one, and the additions.
 fn report_found(degrees: FoundDegrees, here: Ranks, additions: u32) -> Report
     ensures { result ≡ record { mark = degrees.mark; degree = degrees.reported; side = byte (part_differs here 1); one = degrees.one; zero = degrees.zero; additions = additions } }
 {
-    let one = degrees.one;
-    let zero = degrees.zero;
     Report {
         mark: degrees.mark,
         degree: degrees.reported,
         side: side_of(here),
-        one,
-        zero,
+        one: degrees.one,
+        zero: degrees.zero,
         additions,
     }
 }
@@ -209,22 +193,22 @@ fn report_found(degrees: FoundDegrees, here: Ranks, additions: u32) -> Report
 // The witnesses against the parts `p` and `q` of the set at degree `d`, where `r` are the ranks, are written. The
 // workspace is scratch then.
 fn write_witnesses(
-    ws: &mut [u64],
-    order: &[u16],
-    set: &[u8],
-    p: &[u8],
-    q: &[u8],
+    ws: &mut Rows,
+    order: &Order,
+    set: &Mask,
+    p: &Mask,
+    q: &Mask,
     n: usize,
     d: usize,
     r: Ranks,
-    one: &mut [u8],
-    zero: &mut [u8],
+    one: &mut Mask,
+    zero: &mut Mask,
 )
-    requires { Ready order.now n ws.old × Marks n set.now × Marks n p.now × Marks n q.now × (d ≤ n) × (length one.old ≡ 512) × (length zero.old ≡ 512)
-        × (r.set ≡ r.one → new_point order.now n d (points set.now) (points p.now) ≡ none)
-        × (r.set ≡ r.zero → new_point order.now n d (points set.now) (points q.now) ≡ none) }
-    ensures witness_of_one { one.new ≡ mask (witness_at order.now n d (points set.now) (points p.now)) }
-    ensures witness_of_zero { zero.new ≡ mask (witness_at order.now n d (points set.now) (points q.now)) }
+    requires { Ready order.now.list n ws.old × Marks n set.now × Marks n p.now × Marks n q.now × (d ≤ n)
+        × (r.set ≡ r.one → new_point order.now.list n d (points set.now) (points p.now) ≡ None)
+        × (r.set ≡ r.zero → new_point order.now.list n d (points set.now) (points q.now) ≡ None) }
+    ensures witness_of_one { one.new ≡ mask (witness_at order.now.list n d (points set.now) (points p.now)) }
+    ensures witness_of_zero { zero.new ≡ mask (witness_at order.now.list n d (points set.now) (points q.now)) }
 {
     write_side(ws, order, set, p, n, d, part_differs(r, 1), one);
     write_side(ws, order, set, q, n, d, part_differs(r, 0), zero);

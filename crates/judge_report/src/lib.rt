@@ -1,18 +1,16 @@
-// The report: docs/SPECIFICATION.md, 'Library'. What Judge answers beside its buffers, as the numbers of one lent slice,
+// The report: docs/SPECIFICATION.md, 'Library'. What Judge answers beside its buffers, as the numbers of one lent array,
 // with an index for each. A number that is added later goes behind the last, so that no index ever changes.
 // include/ekthavrul.h gives C the same indices.
 #![tactic(auto)]
 
-ghost use Rattle.std.specs.Prelude.{◌≡◌, ◌≤◌, length, take};
-ghost use Rattle.std.proofs.Math.Option.{none, some};
+ghost use Rattle.std.specs.Prelude.{◌≡◌, ◌≤◌, take};
 ghost use Rattle.filter.specs.Sides.{pair};
 ghost use Rattle.immunity.specs.Ranks.{flat};
-ghost use Rattle.immunity.specs.FirstDegree.{degree_of, degrees_of};
-ghost use Rattle.judge.specs.declared.Finding.TheVariants.{Judged};
-ghost use Rattle.judge_report.specs.Report.{degree_number, numbers, Reportable, Reports};
+ghost use Rattle.judge_report.specs.Report.{degree_number, numbers, Bounded, Reportable, Reports};
 
-use immunity::{FirstDegree, Ranks};
-use judge::{Finding, JudgeAnswer, Report};
+use immunity::Ranks;
+use judge::{JudgeAnswer, Report};
+use refusal::Refusal;
 
 // The length of the report.
 pub const REPORT: usize = 36;
@@ -58,29 +56,26 @@ const NO_SIDE: u32 = 2;
 const DEGREES: usize = 10;
 
 // The status of what Judge answered; where it accepts, its report goes to `report`.
-pub fn write_report(answer: JudgeAnswer, report: &mut [u32]) -> u8
-    requires { (length report.old ≡ 36) × Reportable answer.finding }
+pub fn write_report(answer: Result<JudgeAnswer, Refusal>, report: &mut [u32; REPORT]) -> u8
+    requires { Reportable answer }
     ensures { Reports answer report.old report.new result }
 {
-    let finding = answer.finding;
-    let ranks = answer.ranks;
-    match finding {
-        Finding::Refused(x) => refusal::number(x),
-        Finding::NoPoint => {
-            write_no_point(ranks, report);
-            0
-        }
-        Finding::Judged(found) => {
-            write_found(ranks, found, report);
+    match answer {
+        Err(x) => u8::from(x),
+        Ok(found) => {
+            let ranks = found.ranks;
+            match found.report {
+                None => write_no_point(ranks, report),
+                Some(judged) => write_found(ranks, judged, report),
+            }
             0
         }
     }
 }
 
 // The report of a set without a point, with these ranks at each degree: the numbers for none, and 0 additions.
-fn write_no_point(ranks: [Ranks; DEGREES], report: &mut [u32])
-    requires { length report.old ≡ 36 }
-    ensures { report.new ≡ numbers ranks none none 0 (pair none none) none }
+fn write_no_point(ranks: [Ranks; DEGREES], report: &mut [u32; REPORT])
+    ensures { report.new ≡ numbers ranks None None 0 (pair None None) None }
 {
     write_ranks(ranks, report);
     report[DEGREE_AT] = NO_DEGREE;
@@ -92,44 +87,35 @@ fn write_no_point(ranks: [Ranks; DEGREES], report: &mut [u32])
 }
 
 // The report of what Judge found, with these ranks at each degree.
-fn write_found(ranks: [Ranks; DEGREES], found: Report, report: &mut [u32])
-    requires { (length report.old ≡ 36) × Reportable (Judged found) }
-    ensures { report.new ≡ numbers ranks (some found.degree) (some found.side) found.additions (degrees_of found.one found.zero) (some found.mark) }
+fn write_found(ranks: [Ranks; DEGREES], found: Report, report: &mut [u32; REPORT])
+    requires { Bounded found }
+    ensures { report.new ≡ numbers ranks (Some found.degree) (Some found.side) found.additions (pair found.one found.zero) (Some found.mark) }
 {
     write_ranks(ranks, report);
     report[DEGREE_AT] = found.degree as u32;
-    report[SIDE_AT] = found.side as u32;
+    report[SIDE_AT] = u32::from(found.side);
     report[ADDITIONS_AT] = found.additions;
-    let one = found.one;
-    let zero = found.zero;
-    report[DEGREE_ONE_AT] = degree_number(one);
-    report[DEGREE_ZERO_AT] = degree_number(zero);
+    report[DEGREE_ONE_AT] = degree_number(found.one);
+    report[DEGREE_ZERO_AT] = degree_number(found.zero);
     report[MARK_AT] = found.mark as u32;
 }
 
 // The ranks at each degree become the numbers in front; the six behind them are still to be written.
-fn write_ranks(ranks: [Ranks; DEGREES], report: &mut [u32])
-    requires { length report.old ≡ 36 }
+fn write_ranks(ranks: [Ranks; DEGREES], report: &mut [u32; REPORT])
     ensures { take 30 report.new ≡ flat ranks }
 {
-    let mut d: usize = 0;
-    while d < DEGREES {
-        let here = ranks[d];
+    for (d, here) in ranks.iter().enumerate() {
         let at = RANKS_OF_DEGREE * d;
-        report[at + RANK_SET_AT] = here.set as u32;
-        report[at + RANK_ONE_AT] = here.one as u32;
-        report[at + RANK_ZERO_AT] = here.zero as u32;
-        d += 1;
+        report[at + RANK_SET_AT] = u32::from(here.set);
+        report[at + RANK_ONE_AT] = u32::from(here.one);
+        report[at + RANK_ZERO_AT] = u32::from(here.zero);
     }
 }
 
 // The number for a side's own degree, which is at most 10 and so fits in 32 bits.
-fn degree_number(degree: FirstDegree) -> u32
-    requires { degree_number (degree_of degree) ≤ 10 }
-    ensures { result ≡ degree_number (degree_of degree) }
+fn degree_number(degree: Option<usize>) -> u32
+    requires { degree_number degree ≤ 10 }
+    ensures { result ≡ degree_number degree }
 {
-    match degree {
-        FirstDegree::At(d) => d as u32,
-        FirstDegree::None => NO_DEGREE,
-    }
+    degree.map_or(NO_DEGREE, |d| d as u32)
 }

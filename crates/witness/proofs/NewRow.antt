@@ -6,8 +6,10 @@
 --   tried_zero           it is one, and nothing is left of its row: there are as many kept rows
 --   tried_new            it is one, and its row is kept: it is the first new point
 use mathlib.Core.Path.{◌≡◌, refl, sym, ap, ap₂, ◌∙◌}
-use mathlib.Core.Bool.{Bool, true, false, not}
+use mathlib.Core.Bool.{Bool, true, false, cond, not}
 use mathlib.Core.List.{List, [], ◌∷◌}
+use Rattle.std.specs.Prelude.{Some}
+use Rattle.std.specs.List.{find}
 use Prim.Native.Nat.{ℕ, ◌+◌, ◌≤◌, ◌<◌}
 use native.Mathlib.Omega.{arith}
 use lib.ListN.{length, get_or, take, drop, length-append}
@@ -20,19 +22,18 @@ use Rattle.gf2.specs.Cut.{cut}
 use Rattle.gf2.specs.Steps.{row_of, one_more_unless}
 use Rattle.point_rows.specs.Workspace.{stored}
 use Rattle.matrix.specs.Workspace.{Takes}
-use Rattle.immunity.specs.First.{first_if, first}
 use Rattle.witness.specs.NewRow.{is_left, kept_with, FindsNew}
 
 -- the points of the mask below a were tried: the kept rows stay, and the first new point is among those from a on
 pub record Tried (t t' : List Row) (k c : ℕ) (b : List ℕ) (a : ℕ) : Type 0 where
   pub kept : take k t' ≡ take k t
   pub stays : drop 512 t' ≡ drop 512 t
-  pub rest : first (is_left (take k t) (stored t c)) (points b) ≡ first (is_left (take k t) (stored t c)) (marked_from b a)
+  pub rest : find (is_left (take k t) (stored t c)) (points b) ≡ find (is_left (take k t) (stored t c)) (marked_from b a)
 
 module _ (t : List Row) (k c : ℕ) (b : List ℕ) where
   -- no point is tried yet
   pub tried_none : Tried t t k c b 0
-  tried_none = record { kept = refl; stays = refl; rest = ap (first (is_left (take k t) (stored t c))) (marked_all b) }
+  tried_none = record { kept = refl; stays = refl; rest = ap (find (is_left (take k t) (stored t c))) (marked_all b) }
 
   module _ (t' : List Row) (a : ℕ) (h : Tried t t' k c b a) where
     -- the next number is no point of the mask
@@ -40,14 +41,13 @@ module _ (t : List Row) (k c : ℕ) (b : List ℕ) where
     tried_other l e = record {
       kept = h.kept;
       stays = h.stays;
-      rest = h.rest ∙ ap (first (is_left (take k t) (stored t c))) (marked_later b a l e);
+      rest = h.rest ∙ ap (find (is_left (take k t) (stored t c))) (marked_later b a l e);
     }
 
     -- all points were tried: there is no new point
     pub tried_all : length b ≤ a → FindsNew t t' k k c (points b)
-    unfolding first
     tried_all l = record {
-      kept = h.kept ∙ sym (ap (kept_with (take k t) (stored t c)) (h.rest ∙ ap (first (is_left (take k t) (stored t c))) (marked_none b a l)));
+      kept = h.kept ∙ sym (ap (kept_with (take k t) (stored t c)) (h.rest ∙ ap (find (is_left (take k t) (stored t c))) (marked_none b a l)));
       stays = h.stays;
       grows = omega arith;
     }
@@ -67,11 +67,10 @@ module _ (t : List Row) (k c : ℕ) (b : List ℕ) where
 
       -- the first new point among those from a on
       first_here : (z : Bool) → is_zero left ≡ z
-          → first (is_left (take k t) (stored t c)) (points b) ≡ first_if (not z) a (first (is_left (take k t) (stored t c)) (marked_from b (a + 1)))
-      unfolding first
+          → find (is_left (take k t) (stored t c)) (points b) ≡ cond (not z) (Some a) (find (is_left (take k t) (stored t c)) (marked_from b (a + 1)))
       first_here z q =
-          h.rest ∙ ap (first (is_left (take k t) (stored t c))) (marked_here b a l e)
-          ∙ ap (λ y. first_if (not y) a (first (is_left (take k t) (stored t c)) (marked_from b (a + 1)))) q
+          h.rest ∙ ap (find (is_left (take k t) (stored t c))) (marked_here b a l e)
+          ∙ ap (λ y. cond (not y) (Some a) (find (is_left (take k t) (stored t c)) (marked_from b (a + 1)))) q
 
       -- how many rows are kept
       count : k' ≡ length (keep_unless (is_zero left) (take k t) left)
@@ -86,7 +85,7 @@ module _ (t : List Row) (k c : ℕ) (b : List ℕ) where
 
       -- nothing is left of its row
       pub tried_zero : k' ≤ k → (k' ≡ k) × Tried t t'' k c b (a + 1)
-      unfolding keep_unless first_if
+      unfolding keep_unless
       tried_zero few = go (is_zero left) refl
         where
           go : (z : Bool) → is_zero left ≡ z → (k' ≡ k) × Tried t t'' k c b (a + 1)
@@ -103,7 +102,7 @@ module _ (t : List Row) (k c : ℕ) (b : List ℕ) where
 
       -- its row is kept: it is the first new point
       pub tried_new : k < k' → FindsNew t t'' k k' c (points b)
-      unfolding keep_unless first_if
+      unfolding keep_unless
       tried_new more = go (is_zero left) refl
         where
           go : (z : Bool) → is_zero left ≡ z → FindsNew t t'' k k' c (points b)

@@ -1,22 +1,13 @@
-use mathlib.Core.Path.{◌≡◌, sym}
-use lib.ListN.{length}
-use Rattle.refusal.specs.Verdict.{verdict}
-use Rattle.refusal.specs.declared.verdict.Verdict.TheVariants.{Passed}
-use Rattle.checker.specs.Check.{check_inputs}
+use mathlib.Core.Path.{sym}
+use Rattle.std.proofs.lemmas.Result.{err_from_is_err_and}
 use Rattle.checker.proofs.Checked.{check_refuses, check_answers}
 use Rattle.checker.proofs.check.Goals as goal
-use Rattle.checker.proofs.check.Goals.{In-Passed}
-
--- the inputs have passed
-passed : (c : In-Passed) → let a = c.args in
-    verdict (check_inputs a.set.now a.table.now a.n a.side a.d (length a.certificate.now)) ≡ Passed
-passed c = sym c.in-Passed.ensures
 
 pub is_certificate-requires : goal.is_certificate-requires
-is_certificate-requires c = passed (goal.at.is_certificate-requires c).In-Passed
+is_certificate-requires c = sym c.in_ok-check_inputs.ensures
 
-pub returns-in-Refused : goal.returns-in-Refused
-returns-in-Refused c = check_refuses _ _ _ _ _ _ _ (sym c.in-Refused.ensures)
+pub returns-in_err-check_inputs : goal.returns-in_err-check_inputs
+returns-in_err-check_inputs c = let p = err_from_is_err_and c.from_residual.result c.from_residual.ensures.1 in rw (p.1, p.2) (check_refuses _ _ _ _ _ _ _ (sym c.in_err-check_inputs.ensures))
 
-pub returns-in-Passed : goal.returns-in-Passed
-returns-in-Passed c = check_answers _ _ _ _ _ _ _ (passed (goal.at.returns-in-Passed c).In-Passed) (sym c.is_certificate.ensures) c.answer_of.ensures
+pub returns : goal.returns
+returns c = check_answers _ _ _ _ _ _ _ (sym c.in_ok-check_inputs.ensures) c.is_certificate.ensures

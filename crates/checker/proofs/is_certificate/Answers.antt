@@ -1,13 +1,11 @@
-use borrow.Author.Rules.{rules}
-use mathlib.Core.Path.{◌≡◌, ◌∙◌}
-use native.Mathlib.Omega.{arith}
-use lib.ListN.{length}
+use Rattle.std.proofs.Common.{rules, arith, ◌≡◌, ◌/◌, length, ◌∙◌}
+use Rattle.std.specs.Simd.{first_chunks}
 use Rattle.order.proofs.BuiltIn.{graded_is_graded}
 use Rattle.filter.proofs.Filters.{few_taps}
 use Rattle.filter.proofs.AtDegree.{AtDegree}
 use Rattle.checker.proofs.Checked.{check_shown, check_length, rows_checked}
 use Rattle.checker.proofs.is_certificate.Goals as goal
-use Rattle.checker.proofs.is_certificate.Goals.{After-part_mask-part, Start}
+use Rattle.checker.proofs.is_certificate.Goals.{Start}
 
 -- what the checks have shown
 shown : (c : Start) → let a = c.args in AtDegree a.n a.set.now a.table.now a.side a.d
@@ -17,12 +15,11 @@ shown c = let a = c.args in check_shown a.set.now a.table.now a.n a.side a.d (le
 long : (c : Start) → length c.args.certificate.now ≡ 4096
 long c = let a = c.args in check_length a.set.now a.table.now a.n a.side a.d (length a.certificate.now) c.requires
 
--- the mask of the part is 512 long
-long-part : (c : After-part_mask-part) → length c.part_mask-part.result ≡ 512
-long-part c = search rules
+pub unwrap-set-requires : goal.unwrap-set-requires
+unwrap-set-requires c = c.as_array.ensures.variant.1 (shown (goal.at.unwrap-set-requires c).Start).filter.set_long
 
-pub part_mask-part-requires : goal.part_mask-part-requires
-part_mask-part-requires c = let p = (shown (goal.at.part_mask-part-requires c).Start).filter in (p.set_long, p.table_long)
+pub unwrap-table-requires : goal.unwrap-table-requires
+unwrap-table-requires c = c.as_array-2.ensures.variant.1 (shown (goal.at.unwrap-table-requires c).Start).filter.table_long
 
 pub overflow_cast-d : goal.overflow_cast-d
 overflow_cast-d c = let p = shown (goal.at.overflow_cast-d c).Start in omega (arith, p.low, few_taps _ _ _ p.filter)
@@ -30,12 +27,18 @@ overflow_cast-d c = let p = shown (goal.at.overflow_cast-d c).Start in omega (ar
 pub columns_row-columns-requires : goal.columns_row-columns-requires
 columns_row-columns-requires c = few_taps c.args.n c.args.set.now c.args.table.now (shown (goal.at.columns_row-columns-requires c).Start).filter
 
-pub rows_right-requires : goal.rows_right-requires
-rows_right-requires c =
-    (long (goal.at.rows_right-requires c).Start, (shown (goal.at.rows_right-requires c).Start).filter.set_long, long-part (goal.at.rows_right-requires c).After-part_mask-part, c.others_row-others.ensures.0, c.columns_row-columns.ensures.0)
+pub unwrap-rows-requires : goal.unwrap-rows-requires
+unwrap-rows-requires c = c.as_array-3.ensures.variant.1 (omega (arith, c.as_chunks.ensures.front_len, long (goal.at.unwrap-rows-requires c).Start))
 
 pub returns : goal.returns
 returns c =
+    let a = c.args in
+    let set : c.unwrap-set.result.now ≡ a.set.now = search rules in
+    let table : c.unwrap-table.result.now ≡ a.table.now = search rules in
+    let rows : c.unwrap-rows.result.now ≡ first_chunks 8 (length a.certificate.now / 8) a.certificate.now = search rules in
+    let whole = long (goal.at.returns c).Start in
+    let count : length a.certificate.now / 8 ≡ 512 = omega (arith, whole) in
+    let parts = rw (set, table) at c.part_mask-part.ensures in
     c.rows_right.ensures
-    ∙ rows_checked graded_is_graded (shown (goal.at.returns c).Start).filter c.args.side c.args.d c.part_mask-part.result c.args.certificate.now
-    c.part_mask-part.ensures (long-part (goal.at.returns c).After-part_mask-part) (long (goal.at.returns c).Start) c.others_row-others.ensures.1 c.columns_row-columns.ensures.1
+    ∙ rw (set, rows, count)
+    (rows_checked graded_is_graded (shown (goal.at.returns c).Start).filter a.side a.d c.part_mask-part.result a.certificate.now parts (search rules) whole c.others_row-others.ensures c.columns_row-columns.ensures)

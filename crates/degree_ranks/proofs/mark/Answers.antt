@@ -1,21 +1,15 @@
--- The loop's invariant: twice the rank exceeds the number of points at no degree below d; n is then the first, or counts for none (first_last).
-use borrow.Author.Count.{below_more}
-use mathlib.Core.Path.{sym, ap, ◌∙◌}
-use mathlib.Core.Option
-use native.Mathlib.Omega.{arith}
-use Rattle.immunity.proofs.FirstUpTo.{first_degree, first_last}
+use Rattle.std.proofs.Common.{rules, take, ◌+◌, ◌∙◌, ap, unwrap_or, Bool, get_or}
+use Rattle.std.proofs.lemmas.Iterator.{YieldsList-from_slice}
+use Rattle.std.proofs.lemmas.Iterator.Search.{position_from_yields_List}
+use Rattle.immunity.specs.declared.Ranks.{Ranks}
+use Rattle.immunity.specs.Mark.{twice_exceeds}
+use Rattle.immunity.specs.Ranks.{no_ranks}
+use Rattle.degree_ranks.proofs.Degrees.{place_found}
 use Rattle.degree_ranks.proofs.mark.Goals as goal
 
-pub loop-d-init : goal.loop-d-init
-loop-d-init c = (omega arith, λ e l. absurd (omega arith))
-
-pub returns-then-twice_exceeds : goal.returns-then-twice_exceeds
-returns-then-twice_exceeds c =
-    sym (ap (λ x. Option.get_or x c.args.n) ((first_degree _ _ c.loop-d.d).1 (record { within = omega arith; passes = sym c.twice_exceeds.ensures ∙ c.if-twice_exceeds.true; before = c.loop-d.invariant.1 })))
-
-pub loop-d-preserved : goal.loop-d-preserved
-loop-d-preserved c =
-    (omega arith, below_more _ c.loop-d.d c.loop-d.invariant.1 (sym c.twice_exceeds.ensures ∙ c.if-twice_exceeds.false))
-
 pub returns : goal.returns
-returns c = sym (first_last _ c.args.n (λ d m. c.loop-d.invariant.1 d (omega arith)))
+returns c =
+    let exceeds : Ranks → Bool = λ r. twice_exceeds r.set (get_or c.args.ranks c.args.n no_ranks).set in
+    c.unwrap_or.ensures
+    ∙ ap (λ x. unwrap_or x c.args.n) (position_from_yields_List exceeds _ _ c.position.result c.position.ensures.ran (YieldsList-from_slice (take (c.args.n + 1) c.args.ranks) (search rules)) (λ x b q k. search rules)
+    ∙ place_found exceeds no_ranks c.args.ranks c.args.n (search rules))

@@ -1,12 +1,12 @@
+-- The ranks and the additions are those of the degrees below d.
 use mathlib.Core.Path.{◌≡◌}
 use mathlib.Core.List.{List}
-use Prim.Native.Nat.{ℕ, ◌+◌, ◌*◌, ◌-◌, ◌≤◌}
+use Prim.Native.Nat.{ℕ, ◌*◌, ◌≤◌}
 use lib.ListN.{get_or, take}
 use Rattle.cube.specs.NumberLists.{below}
 use Rattle.gf2.specs.Prefix.{count_to, sum_to}
 use Rattle.immunity.specs.Judgement.{summed}
-use Rattle.degree_ranks.specs.Cut.{up_to}
-use Rattle.degree_ranks.proofs.Degrees.{degrees_from, ValuesTo}
+use Rattle.degree_ranks.proofs.Degrees.{ValuesTo}
 use Rattle.degree_ranks.proofs.mask_ranks.Given as goal
 
 -- the number of pivots below the columns of a degree
@@ -19,8 +19,4 @@ tallied cs tally d = sum_to (get_or cs d 0) tally
 
 abbrev pub invariant-loop-d : goal.invariant-loop-d
 invariant-loop-d l =
-    (l.d ≤ l.n + 1) × (l.additions ≤ l.d * 134217728) × ValuesTo 0 (up_to l.n (counted l.columns l.kept l.pivots)) l.d l.ranks
-    × (l.additions + summed (tallied l.columns l.tally) (degrees_from l.n l.d) ≡ summed (tallied l.columns l.tally) (below (l.n + 1)))
-
-abbrev pub decreases-loop-d : goal.decreases-loop-d
-decreases-loop-d l = l.n + 1 - l.d
+    ValuesTo (counted l.columns l.kept l.pivots) l.d l.ranks × (l.additions ≡ summed (tallied l.columns l.tally) (below l.d)) × (l.additions ≤ l.d * 134217728)
