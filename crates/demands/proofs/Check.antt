@@ -12,10 +12,10 @@ use lib.Dec.{eqb}
 use lib.ListN.{length, get_or, get_or-eq_default}
 use lib.Pow.{pow_pos}
 use borrow.Author.Tests.{eqb-false}
-use Rattle.refusal.specs.Outcome.{Outcome, refused, accepted, Check, checked}
+use Rattle.std.specs.Prelude.{Ok}
+use Rattle.refusal.specs.Outcome.{Outcome, refused, accepted, Check, checked, outcome_of}
 use Rattle.refusal.specs.Verdict.{verdict}
-use Rattle.refusal.specs.declared.verdict.Verdict.TheVariants.{Passed}
-use Rattle.refusal.proofs.Outcomes.{not_both}
+use Rattle.refusal.proofs.Outcomes.{not_both, accepted_answer}
 use Rattle.refusal.proofs.Verdicts.{checked_append, verdict_refuses, accepted_passes, refused_either, refused_other}
 use Rattle.cube.specs.Mask.{points}
 use Rattle.cube.proofs.Masks.{value_at}
@@ -46,25 +46,11 @@ use Rattle.judge.specs.Judge.{JudgeAccepts}
 use Rattle.judge.proofs.Passed.{judge_accepted, judge_accepts}
 use Rattle.certify.specs.Certify.{certify_inputs, ranks_equal, certify_outcome}
 use Rattle.certify.proofs.Compared.{certify_passed, certify_lengths}
-use Rattle.checker.specs.declared.CheckAnswer.{CheckAnswer}
-use Rattle.checker.specs.declared.CheckAnswer.TheVariants as answer
-use Rattle.checker.specs.Check.{check_inputs, check_outcome, outcome_of, CheckAccepts}
+use Rattle.checker.specs.Check.{check_inputs, check_outcome, CheckAccepts}
 use Rattle.checker.proofs.Checked.{check_shown, check_length, check_passes, check_says, check_accepted, check_exact}
 use Rattle.demands.specs.Check.{Admitted, AnyCertificate}
 use Rattle.demands.proofs.CertifyWords.{certify_words}
 use Rattle.demands.proofs.Refusals.{check_refuses, same_rank}
-
--- an answer that states yes is yes
-yes_answer : (r : CheckAnswer) → outcome_of r ≡ accepted true → r ≡ answer.Yes
-yes_answer (answer.Refused x) e = absurd (not_both e)
-yes_answer answer.Yes e = refl
-yes_answer answer.No e = let z : false ≡ true = cc in absurd (false≢true z)
-
--- one that states no is no
-no_answer : (r : CheckAnswer) → outcome_of r ≡ accepted false → r ≡ answer.No
-no_answer (answer.Refused x) e = absurd (not_both e)
-no_answer answer.Yes e = let z : false ≡ true = cc in absurd (false≢true z)
-no_answer answer.No e = refl
 
 module _ (s f : List ℕ) (n side d : ℕ) (c : List ℕ) where
   -- what Check answers
@@ -162,7 +148,7 @@ module _ (s f : List ℕ) (n side d : ℕ) (c : List ℕ) where
         )
 
   -- inputs that pass get a no where the ranks differ
-  unequal : verdict (check_inputs s f n side d (length c)) ≡ Passed → ¬ EqualRanks graded n s f side d → Answers false
+  unequal : verdict (check_inputs s f n side d (length c)) ≡ Ok tt → ¬ EqualRanks graded n s f side d → Answers false
   unequal passed other = go (certifies graded n d (points s) (part side s f) c) (check_says graded s f n side d c passed)
     where
       go : (b : Bool) → Answers b → Answers false
@@ -258,11 +244,11 @@ any_certificate = record {
   yes_others = yes_others;
   says_yes = λ s f n side d c r h. (
     λ is. (answers_yes s f n side d c).0 (sym h.answers ∙ ap outcome_of is),
-    λ right. yes_answer r (h.answers ∙ (answers_yes s f n side d c).1 right),
+    λ right. accepted_answer r (h.answers ∙ (answers_yes s f n side d c).1 right),
   );
   says_no = λ s f n side d c r h. (
     λ is. (answers_no s f n side d c).0 (sym h.answers ∙ ap outcome_of is),
-    λ wrong. no_answer r (h.answers ∙ (answers_no s f n side d c).1 wrong),
+    λ wrong. accepted_answer r (h.answers ∙ (answers_no s f n side d c).1 wrong),
   );
   says_number = λ s f n side d c r k h. (
     λ is. (check_refuses s f n side d c k).0 (sym h.answers ∙ is),
@@ -273,7 +259,7 @@ any_certificate = record {
   yes_none = λ s f n side d c e.
       (equal_none graded_is_graded (few_taps n s f (shown s f n side d c true e).filter) d (points s) (part side s f) (part_among side s f)).0 (yes_ranks s f n side d c e);
   written_yes = written_yes;
-  left_yes = λ s f n side d ws ws' c c' r h k. yes_answer r (k.answers ∙ written_yes s f n side d (length ws) (length c) c' (sym h.answers));
+  left_yes = λ s f n side d ws ws' c c' r h k. accepted_answer r (k.answers ∙ written_yes s f n side d (length ws) (length c) c' (sym h.answers));
   differ_no = differ_no;
   differ_judged = differ_judged;
   refused_no = refused_no;

@@ -9,6 +9,7 @@ use native.Mathlib.Omega.{arith}
 use lib.Dec.{eqb}
 use lib.ListN.{length, drop}
 use borrow.Author.Tests.{eqb-true, eq-eqb, ne_eqb}
+use Rattle.refusal.specs.Verdict.{Verdict}
 use Rattle.refusal.specs.Outcome.{Outcome, refused, accepted, mapped, left, left_by}
 use Rattle.refusal.proofs.Outcomes.{not_both, number_not_6, mapped_refused}
 use Rattle.cube.specs.NumberLists.{lists}
@@ -28,7 +29,6 @@ use Rattle.filter_file.proofs.Faults.{refused_fault}
 use Rattle.filter_file.proofs.ValidFilter.{size_small, valid_filter}
 use Rattle.immunity.specs.Judgement.{judged}
 use Rattle.judge.proofs.Passed.{judge_accepts}
-use Rattle.certify.specs.declared.CertifyAnswer.{CertifyAnswer}
 use Rattle.certify.specs.Certify.{cleared_unless, CertifyContract}
 use Rattle.demands.specs.Demands.{Demand1}
 
@@ -59,7 +59,7 @@ cleared : (k : ℕ) (ws : List ℕ) → (k ≢ 12 → cleared_unless (refused k)
 cleared k ws = (λ h. rw (ne_eqb k 12 h), λ e. rw (eq-eqb k 12 e))
 
 -- what Certify leaves after a refusal
-certify_keeps : (o : Outcome (List ℕ)) (ws ws' c c' : List ℕ) (r : CertifyAnswer) (k : ℕ) → CertifyContract o ws ws' c c' r → o ≡ refused k
+certify_keeps : (o : Outcome (List ℕ)) (ws ws' c c' : List ℕ) (r : Verdict) (k : ℕ) → CertifyContract o ws ws' c c' r → o ≡ refused k
     → (c' ≡ c) × (k ≢ 12 → ws' ≡ ws) × (k ≡ 12 → ws' ≡ zeros (length ws))
 certify_keeps o ws ws' c c' r k h e =
     let left : ws' ≡ cleared_unless (refused k) ws = h.leaves ∙ ap (λ y. cleared_unless y ws) e in (

@@ -6,9 +6,9 @@ use mathlib.Core.Bool.{true}
 use Prim.Native.Nat.{ℕ, ◌≤◌, ◌<◌}
 use native.Mathlib.Omega.{arith}
 use lib.ListN.{length}
+use Rattle.std.specs.Prelude.{Ok}
 use Rattle.refusal.specs.Outcome.{left}
 use Rattle.refusal.specs.Verdict.{verdict}
-use Rattle.refusal.specs.declared.verdict.Verdict.TheVariants.{Passed}
 use Rattle.refusal.proofs.Verdicts.{passed_all, accepted_passes}
 use Rattle.cube.specs.Cube.{size}
 use Rattle.cube.specs.Mask.{well_formed, member, points}
@@ -36,7 +36,7 @@ use Rattle.demands.specs.Demands.{ConvertAccepts, RankAccepts, FewAdditions, Dem
 
 module _ (n : ℕ) (b : List ℕ) (e : ConvertAccepts n b) where
   -- the checks of Convert hold
-  passed : verdict (convert_checks n b) ≡ Passed
+  passed : verdict (convert_checks n b) ≡ Ok tt
   unfolding convert_outcome
   passed = (accepted_passes (convert_checks n b) _ tt e).0
 

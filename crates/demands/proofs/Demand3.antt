@@ -3,9 +3,9 @@
 use mathlib.Core.List.{List}
 use mathlib.Core.Path.{◌≡◌}
 use mathlib.Core.Logic.{◌↔◌, inl, inr}
-use mathlib.Core.Option.{some}
 use Prim.Native.Nat.{ℕ, ◌≤◌}
 use native.Mathlib.Omega.{arith}
+use Rattle.std.specs.Prelude.{Some}
 use Rattle.cube.specs.Mask.{points}
 use Rattle.order.specs.BuiltIn.{graded}
 use Rattle.order.proofs.BuiltIn.{graded_is_graded}
@@ -54,7 +54,7 @@ judgement3 n s f p = record {
     )
 
     -- the reported degree
-    first : (k : ℕ) → reported graded n s f ≡ some k → Reported3 n s f (judged graded n s f) k
+    first : (k : ℕ) → reported graded n s f ≡ Some k → Reported3 n s f (judged graded n s f) k
     first k is = let r : FirstDiffers graded n s f k = reported_first graded_is_graded small s f k is in record {
       within = r.within;
       before = λ side d l m. (given side d l (omega (arith, r.within))).1 (r.before side d l m);

@@ -5,14 +5,16 @@ use mathlib.Core.Logic.{◌↔◌, ◌≢◌, inl, inr}
 use mathlib.Core.Bool.{Bool, true, false, false≢true}
 use mathlib.Core.List.Memᴰ
 use mathlib.Core.List.{List, [], ◌++◌, append_assoc}
-use mathlib.Core.Option.{none, some, none-ne-some}
 use Prim.Native.Nat.{ℕ, ◌+◌, ◌^◌, ◌≤◌, ◌<◌}
 use native.Mathlib.Omega.{arith}
 use native.Mathlib.Decide.{dec_lt}
 use lib.ListN.{length, get_or, replicate, get_or-replicate, get_or-eq_default, length-replicate}
 use lib.Seq.{ext_get_or}
+use Rattle.std.specs.Prelude.{Result, Ok, None, Some, Option}
+use Rattle.refusal.specs.Verdict.{Verdict}
+use Rattle.refusal.specs.declared.Refusal.{Refusal}
 use Rattle.refusal.specs.Outcome.{Outcome, refused, accepted, left_by, left}
-use Rattle.refusal.proofs.Outcomes.{not_both, accepted_value, number_not_6, checked_not_6}
+use Rattle.refusal.proofs.Outcomes.{accepted_answer, accepted_by, not_both, accepted_value, number_not_6, checked_not_6}
 use Rattle.cube.specs.NumberLists.{up_from, below, cons_if, select, lists, is_empty}
 use Rattle.cube.specs.Cube.{Taps, size}
 use Rattle.cube.specs.Mask.{WellFormed, points, HasPoint, mask}
@@ -42,20 +44,13 @@ use Rattle.immunity.specs.Judgement.{reported, side_degree, witness_bytes, Judge
 use Rattle.immunity.proofs.NoPoint.{ranks_none, equal_at_all, reported_none, no_side, side_degree_none, mark_none, additions_none, mask_none, witness_none, kept_none, certificate_none, annihilates_none, reported_point, none_empty}
 use Rattle.judge.specs.declared.JudgeAnswer.{JudgeAnswer}
 use Rattle.judge.specs.declared.Report.{Report}
-use Rattle.judge.specs.declared.Finding.TheVariants as finding
-use Rattle.judge.specs.Judge.{judge_checks, judge_outcome, judgement_of, no_point_judgement, found, JudgeContract}
+use Rattle.judge.specs.Judge.{judge_checks, judge_outcome, outcome_of as judge_outcome_of, found, JudgeContract}
 use Rattle.judge.proofs.Passed.{accepted_filter, judge_accepted, judge_accepts, found_judged}
 use Rattle.judge.proofs.Judging.{judgement_none}
-use Rattle.certify.specs.declared.CertifyAnswer.{CertifyAnswer}
-use Rattle.certify.specs.declared.CertifyAnswer.TheVariants as certified
-use Rattle.certify.specs.Certify.{certify_inputs, ranks_equal, certify_outcome, CertifyContract, CertifyAccepts, cleared_unless, outcome_of as certify_outcome_of}
+use Rattle.certify.specs.Certify.{certify_inputs, ranks_equal, certify_outcome, CertifyContract, CertifyAccepts, cleared_unless}
 use Rattle.certify.proofs.Compared.{certify_accepts}
-use Rattle.checker.specs.declared.CheckAnswer.{CheckAnswer}
-use Rattle.checker.specs.declared.CheckAnswer.TheVariants as answer
-use Rattle.checker.specs.Check.{check_inputs, check_outcome, outcome_of, CheckContract, CheckAccepts}
+use Rattle.checker.specs.Check.{check_inputs, check_outcome, CheckContract, CheckAccepts}
 use Rattle.checker.proofs.Checked.{check_passes, check_says}
-use Rattle.rearrange.specs.declared.RearrangeAnswer.{RearrangeAnswer}
-use Rattle.rearrange.specs.declared.RearrangeAnswer.TheVariants as rearranged
 use Rattle.wiring.specs.Wiring.{Wiring, rewired}
 use Rattle.rearrange.specs.Rearrange.{rearrange_checks, rearrange_outcome, RearrangeContract}
 use Rattle.wiring.proofs.Rewired.{rewired_long, rewired_formed}
@@ -131,19 +126,11 @@ certify_none n f side d h l m =
     ∙ ap accepted (certificate_none graded n no_points f points_none side d)
 
 -- and clears its workspace
-certified_leaves : (n : ℕ) (f : List ℕ) (side d : ℕ) (ws ws' c c' : List ℕ) (r : CertifyAnswer) → TableOf n f → side ≤ 1 → d ≤ n → length ws ≡ 8192 → length c ≡ 4096
-    → CertifyContract (certify_outcome graded no_points f n side d (length ws) (length c)) ws ws' c c' r → (r ≡ certified.Accepted) × (ws' ≡ zeros 8192) × (c' ≡ zeros 4096)
+certified_leaves : (n : ℕ) (f : List ℕ) (side d : ℕ) (ws ws' c c' : List ℕ) (r : Verdict) → TableOf n f → side ≤ 1 → d ≤ n → length ws ≡ 8192 → length c ≡ 4096
+    → CertifyContract (certify_outcome graded no_points f n side d (length ws) (length c)) ws ws' c c' r → (r ≡ Ok tt) × (ws' ≡ zeros 8192) × (c' ≡ zeros 4096)
 certified_leaves n f side d ws ws' c c' r h l m long-ws long-c x =
     let is : certify_outcome graded no_points f n side d (length ws) (length c) ≡ accepted (zeros 4096) = rw (long-ws, long-c) (certify_none n f side d h l m) in
-    (go r (x.answers ∙ is), x.leaves ∙ ap (λ o. cleared_unless o ws) is ∙ ap zeros long-ws, x.leaves_certificate ∙ ap (λ o. left_by o c (λ y. y)) is)
-  where
-    go : (y : CertifyAnswer) → certify_outcome_of y c' ≡ accepted (zeros 4096) → y ≡ certified.Accepted
-    go (certified.Refused z) e = absurd (not_both e)
-    go certified.Accepted e = refl
-
--- yes is not no
-yes_not_no : answer.Yes ≡ answer.No → ⊥
-yes_not_no e = false≢true (sym (accepted_value (ap outcome_of e)))
+    ((accepted_by _ r (x.answers ∙ is)).1, x.leaves ∙ ap (λ o. cleared_unless o ws) is ∙ ap zeros long-ws, x.leaves_certificate ∙ ap (λ o. left_by o c (λ y. y)) is)
 
 module _ (n : ℕ) (f : List ℕ) (side d : ℕ) (c : List ℕ) (h : TableOf n f) (l : side ≤ 1) (m : d ≤ n) (long : length c ≡ 4096) (small : (i : ℕ) → get_or c i 0 < 2 ^ 64) where
   -- Check says yes to zeros,
@@ -162,65 +149,61 @@ module _ (n : ℕ) (f : List ℕ) (side d : ℕ) (c : List ℕ) (h : TableOf n f
       (_, says, (λ yes. only_yes (says ∙ ap accepted yes), λ e. accepted_value (sym says ∙ yes_zeros e)))
 
 -- and what the code says
-check_answers : (n : ℕ) (f : List ℕ) (side d : ℕ) (c : List ℕ) (r : CheckAnswer) → TableOf n f → side ≤ 1 → d ≤ n → length c ≡ 4096 → ((i : ℕ) → get_or c i 0 < 2 ^ 64)
-    → CheckContract graded no_points f n side d c r → ((r ≡ answer.Yes) ↔ (c ≡ zeros 4096)) × ((r ≡ answer.No) ↔ (c ≢ zeros 4096))
+check_answers : (n : ℕ) (f : List ℕ) (side d : ℕ) (c : List ℕ) (r : Result Bool Refusal) → TableOf n f → side ≤ 1 → d ≤ n → length c ≡ 4096 → ((i : ℕ) → get_or c i 0 < 2 ^ 64)
+    → CheckContract graded no_points f n side d c r → ((r ≡ Ok true) ↔ (c ≡ zeros 4096)) × ((r ≡ Ok false) ↔ (c ≢ zeros 4096))
 check_answers n f side d c r h l m long small k =
     let (b, says, exact) = check_none n f side d c h l m long small in
-    go r b (k.answers ∙ says) exact
+    rw (accepted_answer r (k.answers ∙ says)) (go b exact)
   where
-    go : (x : CheckAnswer) (b : Bool) → outcome_of x ≡ accepted b → ((b ≡ true) ↔ (c ≡ zeros 4096)) → ((x ≡ answer.Yes) ↔ (c ≡ zeros 4096)) × ((x ≡ answer.No) ↔ (c ≢ zeros 4096))
-    go (answer.Refused y) b e exact = absurd (not_both e)
-    go answer.Yes b e exact =
-        let yes : b ≡ true = sym (accepted_value e) in
-        ((λ _. exact.0 yes, λ _. refl), (λ q. absurd (yes_not_no q), λ other. absurd (other (exact.0 yes))))
-    go answer.No b e exact =
-        let no-yes : b ≡ false = sym (accepted_value e) in
-        ((λ q. absurd (yes_not_no (sym q)), λ z. absurd (false≢true (sym no-yes ∙ exact.1 z))), (λ _ z. false≢true (sym no-yes ∙ exact.1 z), λ _. refl))
+    go : (b : Bool) → ((b ≡ true) ↔ (c ≡ zeros 4096)) → ((◌≡◌ {A = Result Bool Refusal} (Ok b) (Ok true)) ↔ (c ≡ zeros 4096)) × ((◌≡◌ {A = Result Bool Refusal} (Ok b) (Ok false)) ↔ (c ≢ zeros 4096))
+    go true exact = ((λ _. exact.0 refl, λ _. refl), (λ q. cc, λ other. absurd (other (exact.0 refl))))
+    go false exact = ((λ q. cc, λ z. absurd (false≢true (exact.1 z))), (λ _ z. false≢true (exact.1 z), λ _. refl))
 
-module _ (n : ℕ) (s f ws ws' : List ℕ) (w w' : Sides (List ℕ)) (m m' : List ℕ) (a : JudgeAnswer)
-    (h : JudgeContract (judge_outcome graded s f n (length ws) (length w.one) (length w.zero) (length m)) ws ws' w w' m m' a)
+module _ (n : ℕ) (s f ws ws' : List ℕ) (w w' : Sides (List ℕ)) (m m' : List ℕ) (y : Result JudgeAnswer Refusal)
+    (h : JudgeContract (judge_outcome graded s f n (length ws) (length w.one) (length w.zero) (length m)) ws ws' w w' m m' y)
   where
     -- what Judge makes of what it is lent
     abbrev outcome : Outcome Judgement
     outcome = judge_outcome graded s f n (length ws) (length w.one) (length w.zero) (length m)
 
     -- where it accepts, a degree is reported exactly where the set has a point
-    degree_point : (j : Judgement) → outcome ≡ accepted j → ((k : ℕ) × (j.degree ≡ some k)) ↔ HasPoint s
+    degree_point : (j : Judgement) → outcome ≡ accepted j → ((k : ℕ) × (j.degree ≡ Some k)) ↔ HasPoint s
     unfolding judged
     degree_point j e = let (filter, is) = accepted_filter graded s f n _ _ _ _ j e in rw (← is) (reported_point graded_is_graded n s f filter)
 
-    -- the answer `NoPoint` states a judgement without a degree
-    none_stated : a.finding ≡ finding.NoPoint → outcome ≡ accepted (no_point_judgement a.ranks w' m')
-    none_stated e = sym (ap (λ x. found x a.ranks w' m') (sym e) ∙ h.answers)
+    -- an answer states the judgement by its report, or without one
+    stated : (a : JudgeAnswer) (x : Option Report) → y ≡ Ok a → a.report ≡ x → outcome ≡ accepted (found x a.ranks w' m')
+    stated a x is e = sym h.answers ∙ ap (λ z. judge_outcome_of z w' m') is ∙ ap (λ z. accepted (found z a.ranks w' m')) e
 
-    -- it is answered exactly where the set has no point
-    answered : (a.finding ≡ finding.NoPoint) ↔ ((j : Judgement) × (outcome ≡ accepted j) × (HasPoint s → ⊥))
+    -- it has none exactly where the set has no point
+    answered : ((a : JudgeAnswer) × (y ≡ Ok a) × (a.report ≡ None)) ↔ ((j : Judgement) × (outcome ≡ accepted j) × (HasPoint s → ⊥))
     answered = (
-      λ e. (no_point_judgement a.ranks w' m', none_stated e, λ p. let (k, is) = (degree_point _ (none_stated e)).1 p in none-ne-some k is),
-      λ (j, e, without). elim (found_judged a.finding a.ranks w' m' j (h.answers ∙ e)) [
+      λ (a, is, e). let states = stated a None is e in (_, states, λ p. let (k, degree) = (degree_point _ states).1 p in cc),
+      λ (j, e, without). let (a, is, reported) = found_judged y w' m' j (h.answers ∙ e) in elim reported [
         | inl (r, _, same) ↦ absurd (without ((degree_point j e).0 (r.degree, sym (ap (λ (i : Judgement). i.degree) same))))
-        | inr (is, _) ↦ is
+        | inr (none, _) ↦ (a, is, none)
       ],
     )
 
-    -- and a report exactly where it has one
-    reported_as : ((r : Report) × (a.finding ≡ finding.Judged r)) ↔ ((j : Judgement) × (outcome ≡ accepted j) × HasPoint s)
+    -- and one exactly where it has a point
+    reported_as : ((a : JudgeAnswer) × (r : Report) × (y ≡ Ok a) × (a.report ≡ Some r)) ↔ ((j : Judgement) × (outcome ≡ accepted j) × HasPoint s)
     reported_as = (
-      λ (r, e). let is : outcome ≡ accepted (judgement_of r a.ranks w' m') = sym (ap (λ x. found x a.ranks w' m') (sym e) ∙ h.answers) in (_, is, (degree_point _ is).0 (r.degree, refl)),
-      λ (j, e, p). elim (found_judged a.finding a.ranks w' m' j (h.answers ∙ e)) [
-        | inl (r, is, _) ↦ (r, is)
-        | inr (_, same) ↦ (let (k, is) = (degree_point j e).1 p in absurd (none-ne-some k (ap (λ (i : Judgement). i.degree) same ∙ is)))
+      λ (a, r, is, e). let states = stated a (Some r) is e in (_, states, (degree_point _ states).0 (r.degree, refl)),
+      λ (j, e, p). let (a, is, reported) = found_judged y w' m' j (h.answers ∙ e) in elim reported [
+        | inl (r, has, _) ↦ (a, r, is, has)
+        | inr (_, same) ↦ (let (k, degree) = (degree_point j e).1 p in let none = ap (λ (i : Judgement). i.degree) same in cc)
       ],
     )
 
     -- and then zeros are left
-    left_zero : a.finding ≡ finding.NoPoint → (a.ranks ≡ replicate 10 no_ranks) × (ws' ≡ zeros (length ws)) × (w' ≡ pair (zeros 512) (zeros 512)) × (m' ≡ zeros 512)
+    left_zero : (a : JudgeAnswer) → y ≡ Ok a → a.report ≡ None → (a.ranks ≡ replicate 10 no_ranks) × (ws' ≡ zeros (length ws)) × (w' ≡ pair (zeros 512) (zeros 512)) × (m' ≡ zeros 512)
     unfolding judged
-    left_zero e =
-        let (filter, is) = accepted_filter graded s f n _ _ _ _ _ (none_stated e) in
+    left_zero a is-a e =
+        let states = stated a None is-a e in
+        let (filter, is) = accepted_filter graded s f n _ _ _ _ _ states in
         let empty : points s ≡ [] = none_empty graded_is_graded n s f filter (ap (λ (j : Judgement). j.degree) is) in (
           sym (ap (λ (j : Judgement). j.ranks) is) ∙ ranks_none graded n s f empty,
-          h.leaves ∙ ap (λ x. left x ws (zeros (length ws))) (none_stated e),
+          h.leaves ∙ ap (λ x. left x ws (zeros (length ws))) states,
           sym (ap (λ (j : Judgement). j.witnesses) is) ∙ ap₂ pair (witness_none graded n s f empty 1) (witness_none graded n s f empty 0),
           sym (ap (λ (j : Judgement). j.kept) is) ∙ kept_none graded n s f empty,
         )
@@ -244,7 +227,7 @@ unfolding judgement_sheet ascii decimal digits
 sheet_none n f =
     sym (ap (judgement_sheet n no_points f) (judgement_none graded n no_points f points_none refl refl refl))
     ∙ sym (no_point_lines n no_points f points_none (replicate 10 no_ranks) (pair (zeros 512) (zeros 512)) (zeros 512))
-    ∙ ap₂ (λ x y. x ++ newline ++ y ++ (ascii "degree none" ++ newline) ++ sides_line (pair none none) ++ additions_line 0)
+    ∙ ap₂ (λ x y. x ++ newline ++ y ++ (ascii "degree none" ++ newline) ++ sides_line (pair None None) ++ additions_line 0)
     (append_assoc (labelled "n" n) (labelled " points" 0) (ascii " mark none")) (ap (λ g. joined g (below (n + 1))) (fun_ext zero_line))
     ∙ spread (labelled "n" n ++ ascii " points 0 mark none" ++ newline ++ zero_lines n)
   where
@@ -265,8 +248,8 @@ printed file c e empty =
     ap sheet_of e ∙ ap (λ s. judgement_sheet c.n s (mask (lists c.table)) (judged graded c.n s (mask (lists c.table)))) none ∙ sheet_none c.n (mask (lists c.table))
 
 -- Rearrange accepts it with each wiring, and leaves it as it was
-rearrange_none : (n : ℕ) (f ts s' f' : List ℕ) (r : RearrangeAnswer) → TableOf n f → Wiring n ts → RearrangeContract (rearrange_outcome no_points f n ts) no_points s' f f' r
-    → (r ≡ rearranged.Accepted) × (s' ≡ no_points)
+rearrange_none : (n : ℕ) (f ts s' f' : List ℕ) (r : Verdict) → TableOf n f → Wiring n ts → RearrangeContract (rearrange_outcome no_points f n ts) no_points s' f f' r
+    → (r ≡ Ok tt) × (s' ≡ no_points)
 rearrange_none n f ts s' f' r h w c =
     let filter : Filter n no_points f = filter_none h in
     let (is, set, _) = accepts_both n ts no_points s' f f' r c filter w in
@@ -300,7 +283,7 @@ empty_set = record {
   no_polynomial = λ n f side p. annihilates_none graded n no_points f points_none side p;
   answered = answered;
   reported = reported_as;
-  left_zero = left_zero;
+  left_zero = λ n s f ws ws' w w' m m' a h e. left_zero n s f ws ws' w w' m m' (Ok a) h a refl e;
   printed = printed;
   shortest = refl;
   shorter = refl;

@@ -4,12 +4,12 @@ use mathlib.Core.Path.{◌≡◌, refl, sym, ap, ◌∙◌}
 use mathlib.Core.Logic.{◌↔◌}
 use mathlib.Core.Bool.{true, false, false≢true}
 use mathlib.Core.List.{List, Memᴰ, map}
-use mathlib.Core.Option.{Option, none, some}
 use Prim.Native.Nat.{ℕ, ◌+◌, ◌≤◌, ◌<◌}
 use native.Mathlib.Decide.{dec_lt}
 use native.Mathlib.Omega.{arith}
 use lib.ListN.{length, get_or, length-map, get_or-eq_default}
 use borrow.Author.Tests.{lt-leb}
+use Rattle.std.specs.Prelude.{Option, None, Some}
 use Rattle.cube.specs.NumberLists.{below}
 use Rattle.cube.specs.Cube.{size}
 use Rattle.cube.specs.Mask.{well_formed, points, byte}
@@ -81,17 +81,17 @@ witness_inside n d ss ps small u e =
 -- so its bytes are 512 and obey the 0/1/0 rule
 witness_mask : (n : ℕ) (s f : List ℕ) (x : Option ℕ) (side : ℕ) → n ≤ 9 → let w : List ℕ = witness_bytes graded n s f x side in (length w ≡ 512) × (well_formed n w ≡ true)
 unfolding witness_bytes
-witness_mask n s f none side small = (length_mask (λ u. false), mask_well_formed n (λ u. false) (λ u e. absurd (false≢true e)))
-witness_mask n s f (some k) side small =
+witness_mask n s f None side small = (length_mask (λ u. false), mask_well_formed n (λ u. false) (λ u e. absurd (false≢true e)))
+witness_mask n s f (Some k) side small =
     let w : Polynomial = witness_at graded n k (points s) (part side s f) in
     (length_mask w, mask_well_formed n w (witness_inside n k (points s) (part side s f) small))
 
 -- those for the reported degree
-report_words : (n : ℕ) (s f : List ℕ) (k : ℕ) → Filter n s f → reported graded n s f ≡ some k → ReportWords n s f (judged graded n s f) k
+report_words : (n : ℕ) (s f : List ℕ) (k : ℕ) → Filter n s f → reported graded n s f ≡ Some k → ReportWords n s f (judged graded n s f) k
 unfolding judged side_at
 report_words n s f k p is = record {
-  side_1 = λ h. side ∙ ap (λ b. some (byte b)) ((unequal_differs graded n s f k 1).1 (λ e. h ((given 1 k (omega arith) low).1 e)));
-  side_0 = λ e. side ∙ ap (λ b. some (byte b)) ((equal_differs graded n s f k 1).1 ((given 1 k (omega arith) low).0 e));
+  side_1 = λ h. side ∙ ap (λ b. Some (byte b)) ((unequal_differs graded n s f k 1).1 (λ e. h ((given 1 k (omega arith) low).1 e)));
+  side_0 = λ e. side ∙ ap (λ b. Some (byte b)) ((equal_differs graded n s f k 1).1 ((given 1 k (omega arith) low).0 e));
   witness = λ i l h. rw (holds i l) (witness_given graded_is_graded small s f i k (λ e. h ((given i k l low).1 e)));
   no_witness = λ i l e. holds i l ∙ witness_zeros graded_is_graded small s f i k ((given i k l low).0 e) ∙ mask_none;
   only_witness = λ i w l x u m. rw (holds i l) (is_unique graded_is_graded small k (points s) (part i s f) w _ x (witness_given graded_is_graded small s f i k (unequal i x)) u m);
@@ -106,10 +106,10 @@ report_words n s f k p is = record {
     given : (i d : ℕ) → i ≤ 1 → d ≤ n → GivenEqual (judged graded n s f) i d ↔ EqualRanks graded n s f i d
     given i d l m = equal_given graded n s f d m small i l
 
-    side : (judged graded n s f).side ≡ some (byte (differs graded n s f k 1))
+    side : (judged graded n s f).side ≡ Some (byte (differs graded n s f k 1))
     side = ap (side_at graded n s f) is
 
-    holds : (i : ℕ) → i ≤ 1 → of_side i (judged graded n s f).witnesses ≡ witness_bytes graded n s f (some k) i
+    holds : (i : ℕ) → i ≤ 1 → of_side i (judged graded n s f).witnesses ≡ witness_bytes graded n s f (Some k) i
     holds i l = buffer_holds graded n s f i l k is
 
     unequal : (i : ℕ) {w : Polynomial} → IsWitness graded n k (points s) (part i s f) w → ¬ EqualRanks graded n s f i k

@@ -5,18 +5,18 @@ use mathlib.Core.Path.{◌≡◌, refl, sym, ap, ap₂, ◌∙◌, subst}
 use mathlib.Core.Logic.{◌≢◌}
 use mathlib.Core.Bool.{Bool, true, false}
 use mathlib.Core.List.{List, []}
-use mathlib.Core.Option.{some}
 use Prim.Native.Nat.{ℕ, ◌≤◌, ◌<◌}
 use native.Mathlib.Omega.{arith}
 use lib.Dec.{eqb}
 use lib.ListN.{length, get_or}
 use lib.Pow.{pow_mono}
 use borrow.Author.Tests.{ne_eqb}
+use Rattle.std.specs.Prelude.{Result, Ok, Some, None}
+use Rattle.refusal.specs.declared.Refusal.{Refusal}
 use Rattle.refusal.specs.declared.Refusal.TheVariants.{Length}
-use Rattle.refusal.specs.Outcome.{Outcome, refused, accepted, ◌otherwise◌, after, left_by}
-use Rattle.refusal.specs.declared.verdict.Verdict.TheVariants as verdicts
+use Rattle.refusal.specs.Outcome.{Outcome, refused, ◌otherwise◌, after, left_by}
 use Rattle.refusal.specs.Verdict.{verdict}
-use Rattle.refusal.proofs.Outcomes.{not_both, accepted_value}
+use Rattle.refusal.proofs.Outcomes.{accepted_by}
 use Rattle.refusal.proofs.Verdicts.{checked_append, accepted_passes}
 use Rattle.cube.specs.NumberLists.{lists, Inside}
 use Rattle.cube.specs.Cube.{taps, size}
@@ -36,9 +36,7 @@ use Rattle.packed.specs.Packed.{zeros}
 use Rattle.matrix.specs.Matrix.{eliminated, rank_of}
 use Rattle.matrix.specs.Kept.{kept_mask}
 use Rattle.matrix.specs.declared.rank.Ranked.{Ranked}
-use Rattle.matrix.specs.declared.rank.RankAnswer.{RankAnswer}
-use Rattle.matrix.specs.declared.rank.RankAnswer.TheVariants as rank
-use Rattle.matrix.specs.Rank.{Ranking, ranking, ranking_of, rank_outcome, outcome_of as rank_outcome_of, RankContract}
+use Rattle.matrix.specs.Rank.{Ranking, ranking, ranking_of, rank_outcome, RankContract}
 use Rattle.matrix.proofs.KeptMask.{points_lists, kept_long, kept_formed, kept_marked, kept_as_many, kept_again}
 use Rattle.matrix.proofs.RankOf.{rank_of_lem, rank_accepts, passed}
 use Rattle.matrix.proofs.Ranked.{Passes, rank_passed}
@@ -56,8 +54,7 @@ use Rattle.immunity.proofs.Reported.{reported_first}
 use Rattle.immunity.proofs.NoPoint.{mask_none, kept_none, none_empty}
 use Rattle.judge.specs.declared.JudgeAnswer.{JudgeAnswer}
 use Rattle.judge.specs.declared.Report.{Report}
-use Rattle.judge.specs.declared.Finding.TheVariants as finding
-use Rattle.judge.specs.Judge.{judge_outcome, judgement_of, found, JudgeContract}
+use Rattle.judge.specs.Judge.{judge_outcome, judgement_of, JudgeContract}
 use Rattle.judge.proofs.Passed.{judge_accepted, found_accepts}
 use Rattle.immunity.specs.Certificate.{bit_of}
 use Rattle.certify.specs.Certify.{certify_inputs, ranks_equal, certify_outcome, PartKept, CertifyAccepts}
@@ -105,7 +102,7 @@ module _ (n d : ℕ) (ps : List ℕ) (tapped : taps n ≡ true) (low : d ≤ n) 
         );
       }
 
-module _ (b : List ℕ) (n d : ℕ) (ws ws' m m' : List ℕ) (r : Ranked) (h : RankContract (rank_outcome graded b n d (length ws) (length m)) ws ws' m m' (rank.Accepted r)) where
+module _ (b : List ℕ) (n d : ℕ) (ws ws' m m' : List ℕ) (r : Ranked) (h : RankContract (rank_outcome graded b n d (length ws) (length m)) ws ws' m m' (Ok r)) where
   -- what Rank accepted passed its checks, and is the definition's
   rank_shown : Passes b n d (length ws) (length m) × (ranking graded n d (points b) ≡ ranking_of r m')
   rank_shown = let (checked, is) = passed graded b n d (length ws) (length m) (ranking_of r m') (sym h.answers) in (rank_passed b n d (length ws) (length m) checked, is)
@@ -127,9 +124,11 @@ module _ (b : List ℕ) (n d : ℕ) (ws ws' m m' : List ℕ) (r : Ranked) (h : R
   rank_many = let p = rank_shown.0 in ap (λ x. length (points x)) (sym rank_left) ∙ kept_as_many graded n d (points b) p.few_taps (points_rising b) (points_inside n b p.formed) ∙ rank_answered
 
   -- lent again it has the same rank, and is left again
-  rank_twice : (v v' l l' : List ℕ) (a : RankAnswer) → length v ≡ 8192 → length l ≡ 512 → RankContract (rank_outcome graded m' n d (length v) (length l)) v v' l l' a
-      → (x : Ranked) × (a ≡ rank.Accepted x) × (x.rank ≡ r.rank) × (l' ≡ m')
-  rank_twice v v' l l' a long-v long-l h₂ = go a (h₂.answers ∙ ap₂ (rank_outcome graded m' n d) long-v long-l ∙ accepts)
+  rank_twice : (v v' l l' : List ℕ) (a : Result Ranked Refusal) → length v ≡ 8192 → length l ≡ 512 → RankContract (rank_outcome graded m' n d (length v) (length l)) v v' l l' a
+      → (x : Ranked) × (a ≡ Ok x) × (x.rank ≡ r.rank) × (l' ≡ m')
+  rank_twice v v' l l' a long-v long-l h₂ =
+      let (x, is, e) = accepted_by (λ y. ranking_of y l') a (h₂.answers ∙ ap₂ (rank_outcome graded m' n d) long-v long-l ∙ accepts) in
+      (x, is, ap (λ (z : Ranking). z.rank) e ∙ same.0 ∙ rank_answered, ap (λ (z : Ranking). z.kept) e ∙ same.1)
     where
       p : Passes b n d (length ws) (length m)
       p = rank_shown.0
@@ -142,12 +141,6 @@ module _ (b : List ℕ) (n d : ℕ) (ws ws' m m' : List ℕ) (r : Ranked) (h : R
       same =
           let (x, y) = kept_again graded n d (points b) p.few_taps (points_rising b) (points_inside n b p.formed) in
           (ap (λ z. rank_of graded n d (points z)) (sym rank_left) ∙ x, ap (λ z. kept_mask graded n d (points z)) (sym rank_left) ∙ y ∙ rank_left)
-
-      go : (y : RankAnswer) → rank_outcome_of y l' ≡ accepted (ranking graded n d (points m')) → (x : Ranked) × (y ≡ rank.Accepted x) × (x.rank ≡ r.rank) × (l' ≡ m')
-      go (rank.Refused z) e = absurd (not_both e)
-      go (rank.Accepted x) e =
-          let is : ranking_of x l' ≡ ranking graded n d (points m') = accepted_value e in
-          (x, refl, ap (λ (z : Ranking). z.rank) is ∙ same.0 ∙ rank_answered, ap (λ (z : Ranking). z.kept) is ∙ same.1)
 
 -- a length before one that is wrong
 also_length : {A : Type 0} (x : Bool) {o : Outcome A} → o ≡ refused 1 → after (x otherwise Length) o ≡ refused 1
@@ -166,14 +159,14 @@ judge_short s f n k p q l other =
     also_length (eqb (length s) 512) (also_length (eqb (length f) 512) (also_length (eqb k 8192) (also_length (eqb p 512) (also_length (eqb q 512) (rw (ne_eqb l 512 other))))))
 
 module _ (n : ℕ) (s f ws ws' : List ℕ) (w w' : Sides (List ℕ)) (m m' : List ℕ) (a : JudgeAnswer) (r : Report)
-    (h : JudgeContract (judge_outcome graded s f n (length ws) (length w.one) (length w.zero) (length m)) ws ws' w w' m m' a) (e : a.finding ≡ finding.Judged r)
+    (h : JudgeContract (judge_outcome graded s f n (length ws) (length w.one) (length w.zero) (length m)) ws ws' w w' m m' (Ok a)) (e : a.report ≡ Some r)
   where
     -- what Judge accepts is a filter, and what it answers and leaves is the definition's
     judge_shown : Filter n s f × (judged graded n s f ≡ judgement_of r a.ranks w' m')
-    judge_shown = judge_accepted graded n s f _ (found_accepts graded n s f ws ws' w w' m m' a h _ _ e refl)
+    judge_shown = judge_accepted graded n s f _ (found_accepts graded n s f ws ws' w w' m m' a h _ e)
 
     -- the degree is the reported one
-    degree_is : reported graded n s f ≡ some r.degree
+    degree_is : reported graded n s f ≡ Some r.degree
     unfolding judged
     degree_is = ap (λ (j : Judgement). j.degree) judge_shown.1
 
@@ -210,11 +203,11 @@ module _ (n : ℕ) (s f ws ws' : List ℕ) (w w' : Sides (List ℕ)) (m m' : Lis
 
 -- where Judge answers that there is no point, the mask that it leaves is that of the points kept at every degree: it is zeros
 judge_none : (n : ℕ) (s f ws ws' : List ℕ) (w w' : Sides (List ℕ)) (m m' : List ℕ) (a : JudgeAnswer)
-    → JudgeContract (judge_outcome graded s f n (length ws) (length w.one) (length w.zero) (length m)) ws ws' w w' m m' a → a.finding ≡ finding.NoPoint
+    → JudgeContract (judge_outcome graded s f n (length ws) (length w.one) (length w.zero) (length m)) ws ws' w w' m m' (Ok a) → a.report ≡ None
     → (m' ≡ zeros 512) × ((d : ℕ) → d ≤ n → KeptWords n d (points s) m' × ((x : Ranking) × RankAccepts s n d x × (x.kept ≡ m')))
 unfolding judged kept_mask eliminated take_points
 judge_none n s f ws ws' w w' m m' a h e =
-    let (filter, is) = judge_accepted graded n s f _ (found_accepts graded n s f ws ws' w w' m m' a h _ _ e refl) in
+    let (filter, is) = judge_accepted graded n s f _ (found_accepts graded n s f ws ws' w w' m m' a h _ e) in
     let empty : points s ≡ [] = none_empty graded_is_graded n s f filter (ap (λ (j : Judgement). j.degree) is) in
     let zero : m' ≡ zeros 512 = sym (ap (λ (j : Judgement). j.kept) is) ∙ kept_none graded n s f empty in
     let left : (d : ℕ) → kept_mask graded n d (points s) ≡ m' = λ d. ap (kept_mask graded n d) empty ∙ mask_none ∙ sym zero in (
@@ -225,7 +218,7 @@ judge_none n s f ws ws' w w' m m' a h e =
       ),
     )
 
-module _ (n : ℕ) (s f : List ℕ) (side d k l : ℕ) (b m : List ℕ) (checks : verdict (certify_inputs s f n side d k l) ≡ verdicts.Passed) (parts : points b ≡ part side s f) (kept : PartKept graded n d b m) where
+module _ (n : ℕ) (s f : List ℕ) (side d k l : ℕ) (b m : List ℕ) (checks : verdict (certify_inputs s f n side d k l) ≡ Ok tt) (parts : points b ≡ part side s f) (kept : PartKept graded n d b m) where
   -- the mask that Certify goes by is that of the part's points
   certify_left : kept_mask graded n d (part side s f) ≡ m
   certify_left = ap (kept_mask graded n d) (sym parts) ∙ sym kept
@@ -269,7 +262,7 @@ kept_masks = record {
   judge_marks = λ n s f ws ws' w w' m m' a r h e. (judge_words n s f ws ws' w w' m m' a r h e, judge_many n s f ws ws' w w' m m' a r h e);
   judge_as_rank = judge_ranked;
   judge_none = judge_none;
-  judge_refusal = λ n s f ws ws' w w' m m' a x h e. h.leaves_kept ∙ ap (λ (o : Outcome Judgement). left_by o m (λ j. j.kept)) (sym (ap (λ y. found y a.ranks w' m') (sym e) ∙ h.answers));
+  judge_refusal = λ n s f ws ws' w w' m m' x h. h.leaves_kept ∙ ap (λ (o : Outcome Judgement). left_by o m (λ j. j.kept)) (sym h.answers);
   judge_length = λ n s f ws ws' w w' m m' a other h. h.answers ∙ judge_short s f n (length ws) (length w.one) (length w.zero) (length m) other;
   certify_marks = certify_kept;
   certify_as_rank = certify_ranked;

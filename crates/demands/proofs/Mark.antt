@@ -3,11 +3,11 @@
 use mathlib.Core.Path.{◌≡◌, refl, sym, ap, ◌∙◌}
 use mathlib.Core.Logic.{◌↔◌, ◌≢◌, inl, inr}
 use mathlib.Core.List.{List, ◌++◌, append_assoc}
-use mathlib.Core.Option.{Option, none, some}
 use Prim.Native.Nat.{ℕ, ◌*◌, ◌≤◌}
 use native.Mathlib.Omega.{arith}
 use native.Mathlib.Decide.{dec_lt, ℕ_discrete}
 use lib.ListN.{length}
+use Rattle.std.specs.Prelude.{Option, None, Some, Ok}
 use Rattle.cube.specs.NumberLists.{lists, Inside}
 use Rattle.cube.specs.Cube.{size}
 use Rattle.cube.specs.Mask.{points, mask}
@@ -31,7 +31,6 @@ use Rattle.immunity.proofs.NoPoint.{reported_point, mark_point}
 use Rattle.immunity.proofs.SideDegrees.{side_lowest, sides_smaller, sides_one}
 use Rattle.judge.specs.declared.JudgeAnswer.{JudgeAnswer}
 use Rattle.judge.specs.declared.Report.{Report}
-use Rattle.judge.specs.declared.Finding.TheVariants.{Judged}
 use Rattle.judge.specs.Judge.{judge_outcome, judgement_of, JudgeContract, JudgeAccepts}
 use Rattle.judge.proofs.Passed.{judge_accepted, judge_accepts, found_accepts, found_judged}
 use Rattle.text.specs.Text.{Text, ascii}
@@ -42,7 +41,7 @@ use Rattle.demands.proofs.SheetWords.{sheet_words}
 use Rattle.demands.proofs.Unreached.{seventeen, seventeen_filter, seventeen_mark, degree_most}
 
 -- the reported degree of a filter is at most the mark on its set
-never_over : (n : ℕ) (s f : List ℕ) → Filter n s f → (k m : ℕ) → reported graded n s f ≡ some k → mark_of graded n s ≡ some m → k ≤ m
+never_over : (n : ℕ) (s f : List ℕ) → Filter n s f → (k m : ℕ) → reported graded n s f ≡ Some k → mark_of graded n s ≡ Some m → k ≤ m
 never_over n s f p k m h e = reported_mark graded n s f p.table_formed k m (reported_first graded_is_graded (few_taps n s f p) s f k h) e
 
 module _ (n : ℕ) (s f : List ℕ) (p : Filter n s f) where
@@ -63,7 +62,7 @@ module _ (n : ℕ) (s f : List ℕ) (p : Filter n s f) where
   given d l = set_given graded n s f d l small
 
   -- the first degree at which twice the rank given exceeds the number of points
-  first_exceeds : (m : ℕ) → (mark_of graded n s ≡ some m) ↔ FirstExceeds n s j m
+  first_exceeds : (m : ℕ) → (mark_of graded n s ≡ Some m) ↔ FirstExceeds n s j m
   first_exceeds m = (
     λ e. let (l, h, b) = (mark_first graded n s m).0 e in
         record { within = l; at = omega (arith, h, given m l); before = λ d i x. omega (arith, b d i, given d (omega arith)) },
@@ -84,8 +83,8 @@ module _ (n : ℕ) (s f : List ℕ) (p : Filter n s f) where
       omega (arith, given d l, equal_most graded n s f p.table_formed d ((same 1 (omega arith)).0 one) ((same 0 (omega arith)).0 zero))
 
   -- a side's own degree that is the smaller is at most the mark
-  smallest : (side other d : ℕ) → side ≤ 1 → other ≤ 1 → other ≢ side → side_degree graded n s f side ≡ some d
-      → ((e : ℕ) → side_degree graded n s f other ≡ some e → d ≤ e) → (m : ℕ) → mark_of graded n s ≡ some m → d ≤ m
+  smallest : (side other d : ℕ) → side ≤ 1 → other ≤ 1 → other ≢ side → side_degree graded n s f side ≡ Some d
+      → ((e : ℕ) → side_degree graded n s f other ≡ Some e → d ≤ e) → (m : ℕ) → mark_of graded n s ≡ Some m → d ≤ m
   smallest side other d l l' apart own least m e =
       let (k, is) = (reported_point graded_is_graded n s f p).1 ((mark_point graded_is_graded n s f p).0 (m, e)) in
       let (i, u, of-k) = sides_one graded n s f k (reported_first graded_is_graded small s f k is) in
@@ -118,7 +117,7 @@ module _ (n : ℕ) (s f : List ℕ) (p : Filter n s f) where
       }
 
 -- on the points 0 to 16 of five taps the mark is 2, and the degree of every filter is at most 1
-below_mark : (f : List ℕ) (j : Judgement) → JudgeAccepts graded 5 seventeen f j → (j.mark ≡ some 2) × ((k : ℕ) → j.degree ≡ some k → k ≤ 1)
+below_mark : (f : List ℕ) (j : Judgement) → JudgeAccepts graded 5 seventeen f j → (j.mark ≡ Some 2) × ((k : ℕ) → j.degree ≡ Some k → k ≤ 1)
 unfolding judged
 below_mark f j e =
     let (filter, is) = judge_accepted graded 5 seventeen f j e in (
@@ -147,9 +146,9 @@ words n s f j e = let (h, is) = judge_accepted graded n s f j e in rw (← is) (
 
 -- and of every report
 report_says : (n : ℕ) (s f ws ws' : List ℕ) (w w' : Sides (List ℕ)) (m m' : List ℕ) (a : JudgeAnswer) (r : Report)
-    → JudgeContract (judge_outcome graded s f n (length ws) (length w.one) (length w.zero) (length m)) ws ws' w w' m m' a → a.finding ≡ Judged r
+    → JudgeContract (judge_outcome graded s f n (length ws) (length w.one) (length w.zero) (length m)) ws ws' w w' m m' (Ok a) → a.report ≡ Some r
     → MarkWords n s f (judgement_of r a.ranks w' m')
-report_says n s f ws ws' w w' m m' a r h e = words n s f _ (found_accepts graded n s f ws ws' w w' m m' a h _ _ e refl)
+report_says n s f ws ws' w w' m m' a r h e = words n s f _ (found_accepts graded n s f ws ws' w w' m m' a h _ e)
 
 -- every sentence
 pub set_mark : SetMark
@@ -157,18 +156,22 @@ unfolding ascii
 set_mark = record {
   every = words;
   unreached = ((seventeen, judged graded 5 seventeen seventeen, judge_accepts graded 5 seventeen seventeen seventeen_filter), below_mark);
-  answered = λ o ws ws' w w' m m' a j h e. elim (found_judged a.finding a.ranks w' m' j (h.answers ∙ e)) [
-    | inl (r, is, same) ↦ inl (r, is, ap (λ (i : Judgement). i.mark) same, ap (λ (i : Judgement). i.degree) same)
-    | inr (is, same) ↦ inr (is, sym (ap (λ (i : Judgement). i.mark) same), sym (ap (λ (i : Judgement). i.degree) same))
-  ];
+  answered = λ o ws ws' w w' m m' y j h e. let (a, is, reported) = found_judged y w' m' j (h.answers ∙ e) in (
+    a,
+    is,
+    elim reported [
+      | inl (r, has, same) ↦ inl (r, has, ap (λ (i : Judgement). i.mark) same, ap (λ (i : Judgement). i.degree) same)
+      | inr (has, same) ↦ inr (has, sym (ap (λ (i : Judgement). i.mark) same), sym (ap (λ (i : Judgement). i.degree) same))
+    ],
+  );
   report_says = report_says;
   report_below = λ n s f ws ws' w w' m m' a r h e.
       let x : MarkWords n s f (judgement_of r a.ranks w' m') = report_says n s f ws ws' w w' m m' a r h e in
       (x.reported_below r.degree r.mark refl refl, ((x.first r.mark).0 refl).within);
   printed = λ file c j m e h mark.
-      let (rest, first) = first_printed c.n (mask (lists c.set)) (mask (lists c.table)) j (some m) mark in
+      let (rest, first) = first_printed c.n (mask (lists c.set)) (mask (lists c.table)) j (Some m) mark in
       (rest, sheet_words.sheet_judged file c j e h ∙ first);
   printed_none = λ file c j e h mark.
-      let (rest, first) = first_printed c.n (mask (lists c.set)) (mask (lists c.table)) j none mark in
+      let (rest, first) = first_printed c.n (mask (lists c.set)) (mask (lists c.table)) j None mark in
       (rest, sheet_words.sheet_judged file c j e h ∙ first);
 }

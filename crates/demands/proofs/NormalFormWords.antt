@@ -1,26 +1,23 @@
 -- The sentences on Convert and Degree hold.
 --   normal_form_words   each of them
-use mathlib.Core.Path.{◌≡◌, refl, sym, ap, ◌∙◌, subst}
+use mathlib.Core.Path.{◌≡◌, sym, ap, ◌∙◌, subst}
 use mathlib.Core.Logic.{◌↔◌}
 use mathlib.Core.Bool.{true}
 use mathlib.Core.List.{List}
 use Prim.Native.Nat.{ℕ, ◌<◌}
 use lib.ListN.{length, get_or}
 use borrow.Author.Tests.{eqb-true, eq-eqb}
-use Rattle.refusal.specs.Outcome.{accepted}
-use Rattle.refusal.proofs.Outcomes.{not_both}
+use Rattle.std.specs.Prelude.{Ok}
+use Rattle.refusal.specs.Outcome.{accepted, outcome_of}
+use Rattle.refusal.proofs.Outcomes.{accepted_answer}
 use Rattle.refusal.proofs.Verdicts.{passed_all, all_passed, verdict_passes, accepted_passes}
 use Rattle.cube.specs.Cube.{Taps, size}
 use Rattle.cube.specs.Mask.{WellFormed, member, byte}
 use Rattle.cube.proofs.Taps.{taps_range}
 use Rattle.cube.proofs.Masks.{formed_says, byte_member}
 use Rattle.polynomial.specs.Polynomial.{value}
-use Rattle.polynomial.specs.declared.convert.ConvertAnswer.{ConvertAnswer}
-use Rattle.polynomial.specs.declared.convert.ConvertAnswer.TheVariants as convert
-use Rattle.polynomial.specs.declared.degree.DegreeAnswer.{DegreeAnswer}
-use Rattle.polynomial.specs.declared.degree.DegreeAnswer.TheVariants as degree
-use Rattle.polynomial.specs.Convert.{convert_checks, convert_outcome, convert_leaves, outcome_of as convert_outcome_of, ConvertContract}
-use Rattle.polynomial.specs.Degree.{degree_checks, degree_outcome, outcome_of as degree_outcome_of}
+use Rattle.polynomial.specs.Convert.{convert_checks, convert_outcome, convert_leaves, ConvertContract}
+use Rattle.polynomial.specs.Degree.{degree_checks, degree_outcome}
 use Rattle.demands.specs.Demands.{ConvertAccepts}
 use Rattle.demands.specs.NormalFormWords.{NormalFormWords}
 use Rattle.demands.proofs.Demand2.{demand2}
@@ -54,17 +51,7 @@ module _ (n : ℕ) (b : List ℕ) where
     ),
   )
 
--- an answer of Convert that states an acceptance is one
-convert_answer : (r : ConvertAnswer) → convert_outcome_of r ≡ accepted tt → r ≡ convert.Accepted
-convert_answer (convert.Refused x) e = absurd (not_both e)
-convert_answer convert.Accepted e = refl
-
--- so is one of Degree
-degree_answer : (r : DegreeAnswer) (k : ℕ) → degree_outcome_of r ≡ accepted k → (d : ℕ) × (r ≡ degree.Accepted d)
-degree_answer (degree.Refused x) k e = absurd (not_both e)
-degree_answer (degree.Accepted d) k e = (d, refl)
-
-module _ (n : ℕ) (b b' : List ℕ) (h : ConvertContract n b b' convert.Accepted) where
+module _ (n : ℕ) (b b' : List ℕ) (h : ConvertContract n b b' (Ok tt)) where
   -- what Convert leaves obeys its rules
   left_obeys : Obeys n b'
   left_obeys = subst (Obeys n) (sym h.leaves) ((convert_obeys n (convert_leaves n b)).0 (demand2.back n b (sym h.answers)).0)
@@ -81,15 +68,15 @@ normal_form_words = record {
   convert_refuses = convert_refuses;
   convert_answers = λ n b b' r k h. rw h.answers (convert_refuses n b k);
   convert_accepts = λ n b b' r h. (
-    λ e. (convert_obeys n b).0 (sym h.answers ∙ ap convert_outcome_of e),
-    λ obeys. convert_answer r (h.answers ∙ (convert_obeys n b).1 obeys),
+    λ e. (convert_obeys n b).0 (sym h.answers ∙ ap outcome_of e),
+    λ obeys. accepted_answer r (h.answers ∙ (convert_obeys n b).1 obeys),
   );
   convert_sums = left_sum;
   convert_stays = λ n b b' h. let (long, _, formed) = left_obeys n b b' h in (long, formed.1);
   degree_refuses = degree_refuses;
   degree_answers = λ n b r k h. rw h.answers (degree_refuses n b k);
   degree_accepts = λ n b r h. (
-    λ (d, e). (degree_obeys n b).0 (d, sym h.answers ∙ ap degree_outcome_of e),
-    λ obeys. let (d, e) = (degree_obeys n b).1 obeys in degree_answer r d (h.answers ∙ e),
+    λ (d, e). (degree_obeys n b).0 (d, sym h.answers ∙ ap outcome_of e),
+    λ obeys. let (d, e) = (degree_obeys n b).1 obeys in (d, accepted_answer r (h.answers ∙ e)),
   );
 }

@@ -11,6 +11,9 @@ use native.Mathlib.Omega.{arith}
 use lib.ListN.{length, get_or}
 use lib.Pow.{pow_mono}
 use lib.Seq.{ext_get_or}
+use Rattle.std.specs.Prelude.{Result, Ok}
+use Rattle.refusal.specs.Verdict.{Verdict}
+use Rattle.refusal.specs.declared.Refusal.{Refusal}
 use Rattle.cube.specs.NumberLists.{lists, Inside}
 use Rattle.cube.specs.Cube.{size, taps}
 use Rattle.cube.specs.Mask.{well_formed, member, points, HasPoint, mask}
@@ -22,7 +25,7 @@ use Rattle.order.specs.Order.{Graded}
 use Rattle.order.proofs.BuiltIn.{graded_is_graded}
 use Rattle.refusal.specs.Rule.{FirstBroken}
 use Rattle.refusal.specs.Outcome.{accepted, left_by}
-use Rattle.refusal.proofs.Outcomes.{not_both, accepted_value}
+use Rattle.refusal.proofs.Outcomes.{accepted_by}
 use Rattle.filter.specs.Filter.{Filter}
 use Rattle.filter.specs.Part.{part}
 use Rattle.filter.specs.Sides.{Sides}
@@ -30,9 +33,7 @@ use Rattle.filter.proofs.Filters.{few_taps}
 use Rattle.filter.proofs.PartPoints.{part_inside}
 use Rattle.matrix.specs.Matrix.{rank_of}
 use Rattle.matrix.specs.declared.rank.Ranked.{Ranked}
-use Rattle.matrix.specs.declared.rank.RankAnswer.{RankAnswer}
-use Rattle.matrix.specs.declared.rank.RankAnswer.TheVariants as rank
-use Rattle.matrix.specs.Rank.{Ranking, ranking, rank_outcome, outcome_of as rank_outcome_of, RankContract}
+use Rattle.matrix.specs.Rank.{Ranking, ranking_of, rank_outcome, RankContract}
 use Rattle.matrix.proofs.RankOf.{rank_accepts}
 use Rattle.matrix.proofs.KeptMask.{points_lists}
 use Rattle.immunity.specs.Judgement.{judged}
@@ -41,10 +42,8 @@ use Rattle.immunity.proofs.SameJudged.{same_judged}
 use Rattle.judge.specs.declared.JudgeAnswer.{JudgeAnswer}
 use Rattle.judge.specs.Judge.{judge_outcome, outcome_of as judge_outcome_of, JudgeContract}
 use Rattle.judge.proofs.Passed.{judge_accepts}
-use Rattle.rearrange.specs.declared.RearrangeAnswer.{RearrangeAnswer}
-use Rattle.rearrange.specs.declared.RearrangeAnswer.TheVariants as answer
 use Rattle.wiring.specs.Wiring.{Wiring, old_point, rewired, inverse, identity}
-use Rattle.rearrange.specs.Rearrange.{Rearranged, rearranged, rearrange_outcome, outcome_of}
+use Rattle.rearrange.specs.Rearrange.{Rearranged, rearranged, rearrange_outcome}
 use Rattle.wiring.proofs.Wirings.{inverse_wiring, inverse_entry, inverse_twice, moves}
 use Rattle.wiring.proofs.Rewired.{rewired_long, rewired_formed, rewired_byte, unmoved, restored}
 use Rattle.wiring.proofs.Lengths.{set_count, part_count}
@@ -55,17 +54,12 @@ use Rattle.demands.specs.Rearrange.{rearrange_rules, FilterOf, Rearranges, OldPo
 use Rattle.demands.proofs.Refusals.{rearrange_refuses}
 use Rattle.demands.proofs.RearrangedRanks.{rank_of_set, part_rank, rearranged_ranks}
 
--- an answer that states an acceptance is one
-accepted_answer : (r : RearrangeAnswer) (s f : List ℕ) (x : Rearranged) → outcome_of r s f ≡ accepted x → r ≡ answer.Accepted
-accepted_answer (answer.Refused y) s f x e = absurd (not_both e)
-accepted_answer answer.Accepted s f x e = refl
-
 -- lent a filter and a wiring, the code accepts, and leaves both masks rearranged
-pub accepts_both : (n : ℕ) (ts s s' f f' : List ℕ) (r : RearrangeAnswer) → Rearranges n ts s s' f f' r → Filter n s f → Wiring n ts
-    → (r ≡ answer.Accepted) × (s' ≡ rewired n ts s) × (f' ≡ rewired n ts f)
+pub accepts_both : (n : ℕ) (ts s s' f f' : List ℕ) (r : Verdict) → Rearranges n ts s s' f f' r → Filter n s f → Wiring n ts
+    → (r ≡ Ok tt) × (s' ≡ rewired n ts s) × (f' ≡ rewired n ts f)
 accepts_both n ts s s' f f' r c h w =
     let e : rearrange_outcome s f n ts ≡ accepted (rearranged n ts s f) = accepts_wiring n s f ts h w in (
-      accepted_answer r s' f' (rearranged n ts s f) (c.answers ∙ e),
+      (accepted_by _ r (c.answers ∙ e)).1,
       c.leaves_set ∙ ap (λ y. left_by y s (λ (z : Rearranged). z.set)) e,
       c.leaves_table ∙ ap (λ y. left_by y f (λ (z : Rearranged). z.table)) e,
     )
@@ -73,7 +67,7 @@ accepts_both n ts s s' f f' r c h w =
 -- what holds of each filter, each wiring and both masks rearranged holds of what the code leaves
 of_accepted : (P : (n : ℕ) (ts s s' f f' : List ℕ) → Type 0)
     → ((n : ℕ) (ts s f : List ℕ) → Filter n s f → Wiring n ts → P n ts s (rewired n ts s) f (rewired n ts f))
-    → (n : ℕ) (ts s s' f f' : List ℕ) → Rearranges n ts s s' f f' answer.Accepted → P n ts s s' f f'
+    → (n : ℕ) (ts s s' f f' : List ℕ) → Rearranges n ts s s' f f' (Ok tt) → P n ts s s' f f'
 of_accepted P h n ts s s' f f' c =
     let (filter, wiring, is) = rearrange_accepted n s f ts (record { set = s'; table = f' }) (sym c.answers) in
     subst (λ (x : Rearranged). P n ts s x.set f x.table) is (h n ts s f filter wiring)
@@ -139,19 +133,19 @@ module _ (n : ℕ) (ts s f : List ℕ) (h : Filter n s f) (w : Wiring n ts) wher
       )
 
 -- the inverse restores both buffers
-restores : (n : ℕ) (ts s s' s'' f f' f'' : List ℕ) (r : RearrangeAnswer) → Rearranges n ts s s' f f' answer.Accepted
-    → Rearranges n (inverse n ts) s' s'' f' f'' r → (r ≡ answer.Accepted) × (s'' ≡ s) × (f'' ≡ f)
-restores n ts s s' s'' f f' f'' r c = of_accepted (λ n ts s s' f f'. Rearranges n (inverse n ts) s' s'' f' f'' r → (r ≡ answer.Accepted) × (s'' ≡ s) × (f'' ≡ f)) back n ts s s' f f' c
+restores : (n : ℕ) (ts s s' s'' f f' f'' : List ℕ) (r : Verdict) → Rearranges n ts s s' f f' (Ok tt)
+    → Rearranges n (inverse n ts) s' s'' f' f'' r → (r ≡ Ok tt) × (s'' ≡ s) × (f'' ≡ f)
+restores n ts s s' s'' f f' f'' r c = of_accepted (λ n ts s s' f f'. Rearranges n (inverse n ts) s' s'' f' f'' r → (r ≡ Ok tt) × (s'' ≡ s) × (f'' ≡ f)) back n ts s s' f f' c
   where
     back : (n : ℕ) (ts s f : List ℕ) → Filter n s f → Wiring n ts → Rearranges n (inverse n ts) (rewired n ts s) s'' (rewired n ts f) f'' r
-        → (r ≡ answer.Accepted) × (s'' ≡ s) × (f'' ≡ f)
+        → (r ≡ Ok tt) × (s'' ≡ s) × (f'' ≡ f)
     back n ts s f h w c' =
         let (is, set, table) = accepts_both n (inverse n ts) (rewired n ts s) s'' (rewired n ts f) f'' r c' (rearranged_filter ts h) (inverse_wiring w) in
         let small : n ≤ 9 = few_taps n s f h in
         (is, set ∙ restored w small s h.set_long h.set_formed, table ∙ restored w small f h.table_long h.table_formed)
 
 -- the identity changes nothing
-unchanged : (n : ℕ) (s s' f f' : List ℕ) (r : RearrangeAnswer) → Filter n s f → Rearranges n (identity n) s s' f f' r → (r ≡ answer.Accepted) × (s' ≡ s) × (f' ≡ f)
+unchanged : (n : ℕ) (s s' f f' : List ℕ) (r : Verdict) → Filter n s f → Rearranges n (identity n) s s' f f' r → (r ≡ Ok tt) × (s' ≡ s) × (f' ≡ f)
 unchanged n s s' f f' r h c =
     let (is, set, table) = accepts_both n (identity n) s s' f f' r c h (identity_wiring n) in
     (is, set ∙ kept s h.set_long h.set_formed, table ∙ kept f h.table_long h.table_formed)
@@ -159,17 +153,13 @@ unchanged n s s' f f' r h c =
     kept : (b : List ℕ) → length b ≡ 512 → well_formed n b ≡ true → rewired n (identity n) b ≡ b
     kept b long formed = unmoved n (identity n) b b (few_taps n s f h) long formed (λ a l. ap (member b) (identity_old n a l))
 
--- an answer of Rank that states an acceptance has its rank
-rank_answer : (a : RankAnswer) (m : List ℕ) (x : Ranking) → rank_outcome_of a m ≡ accepted x → (r : Ranked) × (a ≡ rank.Accepted r) × (r.rank ≡ x.rank)
-rank_answer (rank.Refused y) m x e = absurd (not_both e)
-rank_answer (rank.Accepted r) m x e = (r, refl, ap (λ (y : Ranking). y.rank) (accepted_value e))
-
 -- lent a mask that obeys the rules and buffers of the right lengths, Rank answers its rank
-rank_answers : (o b : List ℕ) (n d : ℕ) (ws ws' m m' : List ℕ) (a : RankAnswer) → (length b ≡ 512) × (well_formed n b ≡ true) → taps n ≡ true → d ≤ n
+rank_answers : (o b : List ℕ) (n d : ℕ) (ws ws' m m' : List ℕ) (a : Result Ranked Refusal) → (length b ≡ 512) × (well_formed n b ≡ true) → taps n ≡ true → d ≤ n
     → length ws ≡ 8192 → length m ≡ 512 → RankContract (rank_outcome o b n d (length ws) (length m)) ws ws' m m' a
-    → (r : Ranked) × (a ≡ rank.Accepted r) × (r.rank ≡ rank_of o n d (points b))
+    → (r : Ranked) × (a ≡ Ok r) × (r.rank ≡ rank_of o n d (points b))
 rank_answers o b n d ws ws' m m' a (long, formed) tapped low work kept c =
-    rank_answer a m' (ranking o n d (points b)) (c.answers ∙ ap₂ (rank_outcome o b n d) work kept ∙ rank_accepts o b n d long tapped formed low)
+    let (r, is, e) = accepted_by (λ x. ranking_of x m') a (c.answers ∙ ap₂ (rank_outcome o b n d) work kept ∙ rank_accepts o b n d long tapped formed low) in
+    (r, is, ap (λ (y : Ranking). y.rank) e)
 
 -- masks that obey the rules and have the same rank at each degree are ranked alike
 ranked_alike : (o : List ℕ) (n : ℕ) (b b' : List ℕ) → taps n ≡ true → (length b ≡ 512) × (well_formed n b ≡ true) → (length b' ≡ 512) × (well_formed n b' ≡ true)
@@ -180,7 +170,7 @@ ranked_alike o n b b' tapped obeys obeys' same d ws ws' m m' v v' l l' a q low w
     (x, y, is, is', e ∙ same d ∙ sym e')
 
 -- lent a filter and buffers of the right lengths, Judge answers its judgement
-judge_answers : (o : List ℕ) (n : ℕ) (s f ws ws' : List ℕ) (w w' : Sides (List ℕ)) (m m' : List ℕ) (a : JudgeAnswer) → Filter n s f
+judge_answers : (o : List ℕ) (n : ℕ) (s f ws ws' : List ℕ) (w w' : Sides (List ℕ)) (m m' : List ℕ) (a : Result JudgeAnswer Refusal) → Filter n s f
     → length ws ≡ 8192 → length w.one ≡ 512 → length w.zero ≡ 512 → length m ≡ 512
     → JudgeContract (judge_outcome o s f n (length ws) (length w.one) (length w.zero) (length m)) ws ws' w w' m m' a → judge_outcome_of a w' m' ≡ accepted (judged o n s f)
 judge_answers o n s f ws ws' w w' m m' a h work one zero kept c =

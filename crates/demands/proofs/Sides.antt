@@ -3,9 +3,9 @@
 use mathlib.Core.Path.{◌≡◌, refl, sym, ap, ◌∙◌}
 use mathlib.Core.Logic.{◌↔◌, inl, inr}
 use mathlib.Core.List.{List, ◌++◌, append_assoc}
-use mathlib.Core.Option.{some}
 use Prim.Native.Nat.{ℕ, ◌≤◌}
 use native.Mathlib.Omega.{arith}
+use Rattle.std.specs.Prelude.{Some}
 use Rattle.cube.specs.NumberLists.{select, Inside}
 use Rattle.cube.specs.Cube.{size}
 use Rattle.cube.specs.Mask.{member, points}
@@ -49,7 +49,7 @@ module _ (n : ℕ) (s f : List ℕ) (p : Filter n s f) where
   own side l = of_both (side_degree graded n s f) side l
 
   -- the first degree at which the ranks given differ
-  first_difference : (side d : ℕ) → side ≤ 1 → (side_degree graded n s f side ≡ some d) ↔ FirstDifference n j side d
+  first_difference : (side d : ℕ) → side ≤ 1 → (side_degree graded n s f side ≡ Some d) ↔ FirstDifference n j side d
   first_difference side d l = (
     λ e. let (m, h, b) = (side_first graded n s f side d).0 e in
         record { within = m; at = λ q. h ((given side d l m).0 q); before = λ i k. (given side i l (omega arith)).1 (b i k) },
@@ -92,11 +92,15 @@ pub both_sides_lem : BothSides
 unfolding judgement_sheet ascii
 both_sides_lem = record {
   every = words;
-  answered = λ o ws ws' w w' m m' a j h e. elim (found_judged a.finding a.ranks w' m' j (h.answers ∙ e)) [
-    | inl (r, is, same) ↦ inl (r, is, ap (λ (i : Judgement). i.degrees) same, ap (λ (i : Judgement). i.degree) same, ap (λ (i : Judgement). i.side) same)
-    | inr (is, same) ↦ inr (is, sym (ap (λ (i : Judgement). i.degrees) same), sym (ap (λ (i : Judgement). i.degree) same), sym (ap (λ (i : Judgement). i.side) same))
-  ];
-  report_says = λ n s f ws ws' w w' m m' a r h e. words n s f _ (found_accepts graded n s f ws ws' w w' m m' a h _ _ e refl);
+  answered = λ o ws ws' w w' m m' y j h e. let (a, is, reported) = found_judged y w' m' j (h.answers ∙ e) in (
+    a,
+    is,
+    elim reported [
+      | inl (r, has, same) ↦ inl (r, has, ap (λ (i : Judgement). i.degrees) same, ap (λ (i : Judgement). i.degree) same, ap (λ (i : Judgement). i.side) same)
+      | inr (has, same) ↦ inr (has, sym (ap (λ (i : Judgement). i.degrees) same), sym (ap (λ (i : Judgement). i.degree) same), sym (ap (λ (i : Judgement). i.side) same))
+    ],
+  );
+  report_says = λ n s f ws ws' w w' m m' a r h e. words n s f _ (found_accepts graded n s f ws ws' w w' m m' a h _ e);
   degree_printed = λ k side ws.
       let w : Text = fields (select (member (of_side side ws)) graded) in
       ap (λ x. x ++ newline) (sym (append_assoc (labelled "degree" k) (labelled " side" side ++ ascii " witness") w)

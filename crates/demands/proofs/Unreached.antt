@@ -6,13 +6,13 @@
 use mathlib.Core.Path.{◌≡◌, refl, sym, ap, ◌∙◌}
 use mathlib.Core.Bool.{Bool, true, false, xor}
 use mathlib.Core.List.{List, Memᴰ}
-use mathlib.Core.Option.{some}
 use Prim.Native.Nat.{ℕ, ◌≤◌, ◌<◌}
 use native.Mathlib.Omega.{arith}
 use lib.Count.{ones, ones_in}
 use lib.Dec.{eqb, ltb}
 use lib.ListN.{length, get_or}
 use borrow.Author.Tests.{eqb-true, eqb-false, ne_eqb, ltb-true}
+use Rattle.std.specs.Prelude.{Some}
 use Rattle.cube.specs.NumberLists.{up_from, cons_if, select}
 use Rattle.cube.specs.Cube.{size, within}
 use Rattle.cube.specs.Mask.{well_formed, points, mask}
@@ -45,7 +45,7 @@ seventeen_filter =
     record { set_long = long; table_long = long; tapped = refl; set_formed = formed; table_formed = formed }
 
 -- its mark is 2: computed
-pub seventeen_mark : mark_of graded 5 seventeen ≡ some 2
+pub seventeen_mark : mark_of graded 5 seventeen ≡ Some 2
 unfolding mark_of eliminated take_points take_point keep_unless reduce add_if count is_zero pivot add xor graded within ones ones_in up_from select cons_if
 seventeen_mark = refl
 

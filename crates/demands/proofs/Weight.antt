@@ -10,19 +10,19 @@ use lib.Pow.{pow_mono}
 use lib.Dec.{eqb}
 use lib.ListN.{length}
 use borrow.Author.Tests.{eqb-true, eq-eqb}
+use Rattle.std.specs.Prelude.{Result, Ok, Err}
+use Rattle.refusal.specs.declared.Refusal.{Refusal}
 use Rattle.cube.specs.Cube.{Taps, size, weight}
 use Rattle.cube.specs.Mask.{member, mask}
 use Rattle.cube.proofs.Bits.{weight_bits}
 use Rattle.cube.proofs.Taps.{taps_range}
 use Rattle.cube.proofs.Masks.{select_count, mask_member, has_point_says, member_points}
 use Rattle.cube.proofs.MaskOf.{length_mask, mask_well_formed}
-use Rattle.refusal.specs.Outcome.{accepted}
+use Rattle.refusal.specs.Outcome.{accepted, outcome_of}
 use Rattle.refusal.proofs.Outcomes.{not_both}
 use Rattle.refusal.proofs.Verdicts.{all_passed, verdict_passes}
 use Rattle.polynomial.specs.Polynomial.{HasDegree}
-use Rattle.polynomial.specs.Degree.{degree_checks, degree_outcome, outcome_of, DegreeContract}
-use Rattle.polynomial.specs.declared.degree.DegreeAnswer.{DegreeAnswer}
-use Rattle.polynomial.specs.declared.degree.DegreeAnswer.TheVariants.{Refused, Accepted}
+use Rattle.polynomial.specs.Degree.{degree_checks, degree_outcome, DegreeContract}
 use Rattle.polynomial.proofs.Largest.{degree_has}
 use Rattle.demands.specs.Weight.{WeightWords}
 
@@ -50,12 +50,12 @@ module _ (n u : ℕ) (t : Taps n) (l : u < size n) where
   weighs k d = sym d.weighs ∙ ap weight (sym (eqb-true u d.top (sym (chosen_is d.top d.inside) ∙ d.chosen)))
 
   -- so that is what Degree answers
-  degree_of_one : (r : DegreeAnswer) → outcome_of r ≡ degree_outcome n alone → r ≡ Accepted (weight u)
-  degree_of_one (Refused x) e = absurd (not_both (e ∙ accepts.1))
-  degree_of_one (Accepted k) e = ap Accepted (weighs k (degree_has n alone k (sym e)))
+  degree_of_one : (r : Result ℕ Refusal) → outcome_of r ≡ degree_outcome n alone → r ≡ Ok (weight u)
+  degree_of_one (Err x) e = absurd (not_both (e ∙ accepts.1))
+  degree_of_one (Ok k) e = ap Ok (weighs k (degree_has n alone k (sym e)))
 
 -- what Degree answers for any polynomial is its degree, at most n
-degree_of_any : (n : ℕ) (b : List ℕ) (k : ℕ) → DegreeContract n b (Accepted k) → HasDegree n (member b) k × (k ≤ n)
+degree_of_any : (n : ℕ) (b : List ℕ) (k : ℕ) → DegreeContract n b (Ok k) → HasDegree n (member b) k × (k ≤ n)
 degree_of_any n b k c = let d = degree_has n b k (sym c.answers) in (d, rw (sym d.weighs) (ones-le n d.top d.inside))
 
 -- all of it

@@ -9,7 +9,9 @@ use Prim.Native.Nat.{ℕ, ◌≤◌}
 use native.Mathlib.Omega.{arith}
 use lib.ListN.{length, take, drop}
 use lib.Seq.{take_at, drop_at}
-use Rattle.refusal.specs.Outcome.{Outcome, accepted, mapped, left_by}
+use Rattle.std.specs.Prelude.{Result}
+use Rattle.refusal.specs.declared.Refusal.{Refusal}
+use Rattle.refusal.specs.Outcome.{Outcome, accepted, mapped, left_by, outcome_of}
 use Rattle.refusal.proofs.Outcomes.{mapped_refused, mapped_accepted}
 use Rattle.refusal.proofs.Verdicts.{accepted_passes}
 use Rattle.cube.specs.NumberLists.{lists}
@@ -18,11 +20,9 @@ use Rattle.cube.proofs.MaskOf.{mask_points}
 use Rattle.order.specs.BuiltIn.{graded}
 use Rattle.varint.specs.Varint.{Bytes}
 use Rattle.filter.specs.Filter.{Filter}
-use Rattle.filter_file.specs.declared.read.ReadAnswer.{ReadAnswer}
-use Rattle.filter_file.specs.declared.write.WriteAnswer.{WriteAnswer}
 use Rattle.filter_file.specs.File.{Contents, contents, encode}
-use Rattle.filter_file.specs.Read.{read_checks, read_outcome, ReadContract, outcome_of as reading_of}
-use Rattle.filter_file.specs.Write.{contents_of, file_of, write_outcome, WriteContract, WriteAccepts, outcome_of as writing_of}
+use Rattle.filter_file.specs.Read.{read_checks, read_outcome, ReadContract}
+use Rattle.filter_file.specs.Write.{contents_of, file_of, write_outcome, WriteContract, WriteAccepts}
 use Rattle.filter_file.proofs.Encoded.{contents_encoded, encoded_bytes}
 use Rattle.filter_file.proofs.Decoded.{contents_decoded}
 use Rattle.filter_file.proofs.Longest.{longest}
@@ -68,8 +68,8 @@ module _ {n : ℕ} {s f : List ℕ} where
       )
 
 -- what the contract of Read says of a file that is taken back
-pub back_read : {n : ℕ} {s f : List ℕ} (file : List ℕ) → ReadBack file n s f → (r : ReadAnswer) (set₀ set₁ table₀ table₁ : List ℕ) → length set₀ ≡ 512 → length table₀ ≡ 512
-    → ReadContract (read_outcome (length set₀) (length table₀) file) r set₀ set₁ table₀ table₁ → (reading_of r ≡ accepted n) × (set₁ ≡ s) × (table₁ ≡ f)
+pub back_read : {n : ℕ} {s f : List ℕ} (file : List ℕ) → ReadBack file n s f → (r : Result ℕ Refusal) (set₀ set₁ table₀ table₁ : List ℕ) → length set₀ ≡ 512 → length table₀ ≡ 512
+    → ReadContract (read_outcome (length set₀) (length table₀) file) r set₀ set₁ table₀ table₁ → (outcome_of r ≡ accepted n) × (set₁ ≡ s) × (table₁ ≡ f)
 back_read file (_, (c, e, taps, set, table)) r set₀ set₁ table₀ table₁ long-set long-table h =
     let reads : read_outcome (length set₀) (length table₀) file ≡ accepted c = rw (long-set, long-table) e in (
       h.answer ∙ ap (mapped (λ y. y.n)) reads ∙ ap accepted taps,
@@ -78,8 +78,8 @@ back_read file (_, (c, e, taps, set, table)) r set₀ set₁ table₀ table₁ l
     )
 
 -- a file that Read accepts is taken back to what Read leaves
-read_back : (file : List ℕ) {r : ReadAnswer} {n : ℕ} (set₀ set₁ table₀ table₁ : List ℕ) → Bytes file
-    → ReadContract (read_outcome (length set₀) (length table₀) file) r set₀ set₁ table₀ table₁ → reading_of r ≡ accepted n → ReadBack file n set₁ table₁
+read_back : (file : List ℕ) {r : Result ℕ Refusal} {n : ℕ} (set₀ set₁ table₀ table₁ : List ℕ) → Bytes file
+    → ReadContract (read_outcome (length set₀) (length table₀) file) r set₀ set₁ table₀ table₁ → outcome_of r ≡ accepted n → ReadBack file n set₁ table₁
 unfolding read_outcome
 read_back file set₀ set₁ table₀ table₁ bytes h a =
     let (c, e, taps) = mapped_accepted (λ y. y.n) (read_outcome (length set₀) (length table₀) file) (sym h.answer ∙ a) in
@@ -88,10 +88,10 @@ read_back file set₀ set₁ table₀ table₁ bytes h a =
     let table : table₁ ≡ mask (lists c.table) = h.table ∙ ap (λ x. left_by x table₀ (λ y. mask (lists y.table))) e in
     (bytes, (c, says, taps, sym set, sym table))
 
-module _ {w : WriteAnswer} {out₀ out₁ : List ℕ} where
+module _ {w : Result ℕ Refusal} {out₀ out₁ : List ℕ} where
   -- what the contract of Write says of an outcome that accepts
   pub leaves_file : {o : Outcome (List ℕ)} {file : List ℕ} → WriteContract o w out₀ out₁ → o ≡ accepted file
-      → (writing_of w ≡ accepted (length file)) × (out₁ ≡ file ++ drop (length file) out₀)
+      → (outcome_of w ≡ accepted (length file)) × (out₁ ≡ file ++ drop (length file) out₀)
   leaves_file h e = (h.answer ∙ ap (mapped length) e, h.output ∙ ap (λ x. left_by x out₀ (λ y. y ++ drop (length y) out₀)) e)
 
 -- each sentence of it

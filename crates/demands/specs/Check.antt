@@ -3,13 +3,14 @@
 --   check_rules s f n side d l   the rules of Check, lent the set s, the table f and a certificate of l numbers, in the order of checking
 --   Admitted s f n side d c      every rule holds
 --   AnyCertificate               what is promised of Check: the refusals, what a yes and a no say, and what Certify's certificates get
-use Rattle.std.specs.Prelude.{◌≡◌, ◌↔◌, ◌≢◌, Bool, true, false, ℕ, ◌/◌, ◌^◌, ◌≤◌, ◌<◌, length, get_or}
+use Rattle.std.specs.Prelude.{◌≡◌, ◌↔◌, ◌≢◌, Bool, true, false, ℕ, ◌/◌, ◌^◌, ◌≤◌, ◌<◌, length, get_or, Result, Ok}
+use Rattle.refusal.specs.declared.Refusal.{Refusal}
 use mathlib.Core.List.{List, [], ◌∷◌, Memᴰ}
 use Rattle.cube.specs.Cube.{Taps}
 use Rattle.cube.specs.Mask.{WellFormed, points}
 use Rattle.order.specs.BuiltIn.{graded}
 use Rattle.refusal.specs.Rule.{Rule, ◌unless◌, FirstBroken}
-use Rattle.refusal.specs.Outcome.{refused, accepted}
+use Rattle.refusal.specs.Outcome.{refused, accepted, outcome_of}
 use Rattle.polynomial.specs.Polynomial.{Polynomial, UpTo}
 use Rattle.gf2.specs.Rank.{Rank}
 use Rattle.point_rows.specs.Rows.{rows}
@@ -19,11 +20,8 @@ use Rattle.immunity.specs.Annihilator.{Annihilator}
 use Rattle.immunity.specs.Judgement.{Judgement, GivenEqual}
 use Rattle.immunity.specs.Certificate.{bit_of, Certifies}
 use Rattle.judge.specs.Judge.{JudgeAccepts}
-use Rattle.certify.specs.declared.CertifyAnswer.TheVariants as certified
 use Rattle.certify.specs.Certify.{certify_outcome, CertifyContract}
-use Rattle.checker.specs.declared.CheckAnswer.{CheckAnswer}
-use Rattle.checker.specs.declared.CheckAnswer.TheVariants as answer
-use Rattle.checker.specs.Check.{check_outcome, outcome_of, CheckContract, CheckAccepts}
+use Rattle.checker.specs.Check.{check_outcome, CheckContract, CheckAccepts}
 use Rattle.demands.specs.JudgementWords.{SameRank}
 
 -- 1: set, table, or a certificate of 4,096 numbers; 4; 8 for the set, then the table; 10: d over n; 11: side over 1
@@ -62,13 +60,13 @@ pub record AnyCertificate : Type 0 where
   pub yes_others : (s f : List ℕ) (n side d : ℕ) (c : List ℕ) → CheckAccepts graded n s f side d c true → ((i : ℕ) → get_or c i 0 < 2 ^ 64)
       → (i : ℕ) → ¬ Outside (points s) (part side s f) (i / 8) → get_or c i 0 ≡ 0
   -- the code answers yes exactly where every rule holds and c is a certificate,
-  pub says_yes : (s f : List ℕ) (n side d : ℕ) (c : List ℕ) (r : CheckAnswer) → CheckContract graded s f n side d c r
-      → (r ≡ answer.Yes) ↔ (Admitted s f n side d c × Certifies graded n d (points s) (part side s f) c)
+  pub says_yes : (s f : List ℕ) (n side d : ℕ) (c : List ℕ) (r : Result Bool Refusal) → CheckContract graded s f n side d c r
+      → (r ≡ Ok true) ↔ (Admitted s f n side d c × Certifies graded n d (points s) (part side s f) c)
   -- no exactly where every rule holds and it is none,
-  pub says_no : (s f : List ℕ) (n side d : ℕ) (c : List ℕ) (r : CheckAnswer) → CheckContract graded s f n side d c r
-      → (r ≡ answer.No) ↔ (Admitted s f n side d c × (¬ Certifies graded n d (points s) (part side s f) c))
+  pub says_no : (s f : List ℕ) (n side d : ℕ) (c : List ℕ) (r : Result Bool Refusal) → CheckContract graded s f n side d c r
+      → (r ≡ Ok false) ↔ (Admitted s f n side d c × (¬ Certifies graded n d (points s) (part side s f) c))
   -- and else the number of the first rule that does not hold
-  pub says_number : (s f : List ℕ) (n side d : ℕ) (c : List ℕ) (r : CheckAnswer) (k : ℕ) → CheckContract graded s f n side d c r
+  pub says_number : (s f : List ℕ) (n side d : ℕ) (c : List ℕ) (r : Result Bool Refusal) (k : ℕ) → CheckContract graded s f n side d c r
       → (outcome_of r ≡ refused k) ↔ FirstBroken (check_rules s f n side d (length c)) k
   -- a yes implies that the ranks of S and of the part at d are equal,
   pub yes_equal : (s f : List ℕ) (n side d : ℕ) (c : List ℕ) → CheckAccepts graded n s f side d c true → SameRank n d (points s) (part side s f)
@@ -82,9 +80,9 @@ pub record AnyCertificate : Type 0 where
   pub written_yes : (s f : List ℕ) (n side d m l : ℕ) (c : List ℕ) → certify_outcome graded s f n side d m l ≡ accepted c
       → CheckAccepts graded n s f side d c true
   -- so the code says yes to what the code of Certify leaves in the buffer that it is lent
-  pub left_yes : (s f : List ℕ) (n side d : ℕ) (ws ws' c c' : List ℕ) (r : CheckAnswer)
-      → CertifyContract (certify_outcome graded s f n side d (length ws) (length c)) ws ws' c c' certified.Accepted
-      → CheckContract graded s f n side d c' r → r ≡ answer.Yes
+  pub left_yes : (s f : List ℕ) (n side d : ℕ) (ws ws' c c' : List ℕ) (r : Result Bool Refusal)
+      → CertifyContract (certify_outcome graded s f n side d (length ws) (length c)) ws ws' c c' (Ok tt)
+      → CheckContract graded s f n side d c' r → r ≡ Ok true
   -- where the ranks differ every certificate gets a no,
   pub differ_no : (s f : List ℕ) (n side d : ℕ) (c : List ℕ) (p q : ℕ) → Admitted s f n side d c
       → Rank (rows graded n d (points s)) p → Rank (rows graded n d (part side s f)) q → p ≢ q → CheckAccepts graded n s f side d c false

@@ -7,33 +7,29 @@
 --   Reported3 n s f j k             what demand 3 says of the reported degree k
 --   Judgement3 n s f j              demand 3 of one n, set and table
 --   Demand3                         demand 3
-use Rattle.std.specs.Prelude.{◌≡◌, ◌↔◌, ◌⊎◌, ◌≢◌, List, ℕ, ◌+◌, ◌*◌, ◌/◌, ◌≤◌, ◌<◌, length}
-use Rattle.std.proofs.Math.Option.{none, some}
+use Rattle.std.specs.Prelude.{◌≡◌, ◌↔◌, ◌⊎◌, ◌≢◌, List, ℕ, ◌+◌, ◌*◌, ◌/◌, ◌≤◌, ◌<◌, length, Result, None, Some}
+use Rattle.matrix.specs.declared.rank.Ranked.{Ranked}
+use Rattle.refusal.specs.Verdict.{Verdict}
+use Rattle.refusal.specs.declared.Refusal.{Refusal}
 use Rattle.cube.specs.NumberLists.{lists}
 use Rattle.cube.specs.Cube.{size}
 use Rattle.cube.specs.Mask.{member, points, HasPoint, mask}
 use Rattle.order.specs.BuiltIn.{graded}
-use Rattle.refusal.specs.Outcome.{Outcome, refused, accepted}
+use Rattle.refusal.specs.Outcome.{Outcome, refused, accepted, outcome_of}
 use Rattle.polynomial.specs.Polynomial.{Polynomial, value, UpTo, HasDegree}
-use Rattle.polynomial.specs.declared.convert.ConvertAnswer.{ConvertAnswer}
 use Rattle.polynomial.specs.Convert.{convert_outcome, convert_leaves, ConvertContract}
 use Rattle.gf2.specs.Rank.{Rank}
 use Rattle.packed.specs.Packed.{zeros}
 use Rattle.point_rows.specs.Rows.{rows}
 use Rattle.matrix.specs.Matrix.{eliminated}
-use Rattle.matrix.specs.declared.rank.RankAnswer.{RankAnswer}
 use Rattle.matrix.specs.Rank.{Ranking, rank_outcome, RankContract}
-use Rattle.filter_file.specs.declared.read.ReadAnswer.{ReadAnswer}
-use Rattle.filter_file.specs.declared.write.WriteAnswer.{WriteAnswer}
 use Rattle.filter_file.specs.File.{Contents, encode, Valid}
 use Rattle.varint.specs.Varint.{Bytes}
 use Rattle.filter_file.specs.Fault.{FileFault}
-use Rattle.filter_file.specs.Read.{read_outcome, outcome_of as read_outcome_of, ReadContract, reading}
+use Rattle.filter_file.specs.Read.{read_outcome, ReadContract, reading}
 use Rattle.filter_file.specs.Write.{WriteContract}
 use Rattle.judge.specs.declared.JudgeAnswer.{JudgeAnswer}
-use Rattle.rearrange.specs.declared.RearrangeAnswer.{RearrangeAnswer}
 use Rattle.rearrange.specs.Rearrange.{Rearranged, RearrangeContract}
-use Rattle.certify.specs.declared.CertifyAnswer.{CertifyAnswer}
 use Rattle.filter.specs.Sides.{Sides, of_side}
 use Rattle.filter.specs.Part.{part}
 use Rattle.immunity.specs.Annihilator.{Annihilator}
@@ -68,7 +64,7 @@ pub record Demand1 : Type 0 where
   -- before all of these, buffers that are not both 512 long are refused by 1
   pub wrong_lengths : (k l : ℕ) (file : List ℕ) → (read_outcome k l file ≡ refused 1) ↔ ((k ≡ 512) × (l ≡ 512) → ⊥)
   -- the answer of Read is a refusal exactly when the outcome is, by the same number
-  pub read_answers : (o : Outcome Contents) (r : ReadAnswer) (s s' f f' : List ℕ) (k : ℕ) → ReadContract o r s s' f f' → (read_outcome_of r ≡ refused k) ↔ (o ≡ refused k)
+  pub read_answers : (o : Outcome Contents) (r : Result ℕ Refusal) (s s' f f' : List ℕ) (k : ℕ) → ReadContract o r s s' f f' → (outcome_of r ≡ refused k) ↔ (o ≡ refused k)
   -- the points of each buffer are those of its list
   pub set_points : (file : List ℕ) (c : Contents) → Bytes file → reading file ≡ accepted c → points (mask (lists c.set)) ≡ c.set
   pub table_points : (file : List ℕ) (c : Contents) → Bytes file → reading file ≡ accepted c → points (mask (lists c.table)) ≡ c.table
@@ -76,20 +72,20 @@ pub record Demand1 : Type 0 where
   pub read_judged : (file : List ℕ) (c : Contents) → Bytes file → reading file ≡ accepted c
       → (j : Judgement) × JudgeAccepts graded c.n (mask (lists c.set)) (mask (lists c.table)) j
   -- a refusal changes none of the lent buffers: of Read,
-  pub read_keeps : (o : Outcome Contents) (r : ReadAnswer) (s s' f f' : List ℕ) (k : ℕ) → ReadContract o r s s' f f' → o ≡ refused k → (s' ≡ s) × (f' ≡ f)
+  pub read_keeps : (o : Outcome Contents) (r : Result ℕ Refusal) (s s' f f' : List ℕ) (k : ℕ) → ReadContract o r s s' f f' → o ≡ refused k → (s' ≡ s) × (f' ≡ f)
   -- of Write,
-  pub write_keeps : (o : Outcome (List ℕ)) (r : WriteAnswer) (out out' : List ℕ) (k : ℕ) → WriteContract o r out out' → o ≡ refused k → out' ≡ out
+  pub write_keeps : (o : Outcome (List ℕ)) (r : Result ℕ Refusal) (out out' : List ℕ) (k : ℕ) → WriteContract o r out out' → o ≡ refused k → out' ≡ out
   -- of Convert,
-  pub convert_keeps : (n : ℕ) (b b' : List ℕ) (r : ConvertAnswer) (k : ℕ) → ConvertContract n b b' r → convert_outcome n b ≡ refused k → b' ≡ b
+  pub convert_keeps : (n : ℕ) (b b' : List ℕ) (r : Verdict) (k : ℕ) → ConvertContract n b b' r → convert_outcome n b ≡ refused k → b' ≡ b
   -- of Rank,
-  pub rank_keeps : (o : Outcome Ranking) (ws ws' m m' : List ℕ) (r : RankAnswer) (k : ℕ) → RankContract o ws ws' m m' r → o ≡ refused k → (ws' ≡ ws) × (m' ≡ m)
+  pub rank_keeps : (o : Outcome Ranking) (ws ws' m m' : List ℕ) (r : Result Ranked Refusal) (k : ℕ) → RankContract o ws ws' m m' r → o ≡ refused k → (ws' ≡ ws) × (m' ≡ m)
   -- of Judge,
-  pub judge_keeps : (o : Outcome Judgement) (ws ws' : List ℕ) (w w' : Sides (List ℕ)) (m m' : List ℕ) (r : JudgeAnswer) (k : ℕ)
+  pub judge_keeps : (o : Outcome Judgement) (ws ws' : List ℕ) (w w' : Sides (List ℕ)) (m m' : List ℕ) (r : Result JudgeAnswer Refusal) (k : ℕ)
       → JudgeContract o ws ws' w w' m m' r → o ≡ refused k → (ws' ≡ ws) × (w' ≡ w) × (m' ≡ m)
   -- of Rearrange,
-  pub rearrange_keeps : (o : Outcome Rearranged) (s s' f f' : List ℕ) (r : RearrangeAnswer) (k : ℕ) → RearrangeContract o s s' f f' r → o ≡ refused k → (s' ≡ s) × (f' ≡ f)
+  pub rearrange_keeps : (o : Outcome Rearranged) (s s' f f' : List ℕ) (r : Verdict) (k : ℕ) → RearrangeContract o s s' f f' r → o ≡ refused k → (s' ≡ s) × (f' ≡ f)
   -- and of Certify, save that 12 leaves the workspace zero
-  pub certify_keeps : (o : Outcome (List ℕ)) (ws ws' c c' : List ℕ) (r : CertifyAnswer) (k : ℕ)
+  pub certify_keeps : (o : Outcome (List ℕ)) (ws ws' c c' : List ℕ) (r : Verdict) (k : ℕ)
       → CertifyContract o ws ws' c c' r → o ≡ refused k → (c' ≡ c) × (k ≢ 12 → ws' ≡ ws) × (k ≡ 12 → ws' ≡ zeros (length ws))
 
 -- demand 2
@@ -141,12 +137,12 @@ pub record Judgement3 (n : ℕ) (s f : List ℕ) (j : Judgement) : Type 0 where
   pub certified : (side d : ℕ) → side ≤ 1 → d ≤ n → GivenEqual j side d
       → (c : List ℕ) × CertifyAccepts graded n s f side d c × Certifies graded n d (points s) (part side s f) c
   -- a degree is reported exactly when the set has a point
-  pub exists : ((k : ℕ) × (j.degree ≡ some k)) ↔ HasPoint s
+  pub exists : ((k : ℕ) × (j.degree ≡ Some k)) ↔ HasPoint s
   -- it is the first at which either side's pair differs, with a witness of each side that does, and no annihilator has a lower degree;
-  pub reported : (k : ℕ) → j.degree ≡ some k → Reported3 n s f j k
+  pub reported : (k : ℕ) → j.degree ≡ Some k → Reported3 n s f j k
   -- where none is reported, neither pair differs at any degree, and no polynomial at all is zero on a part and one somewhere on S
-  pub none_differs : j.degree ≡ none → (side d : ℕ) → side ≤ 1 → d ≤ n → GivenEqual j side d
-  pub none_annihilates : j.degree ≡ none → (side : ℕ) (p : Polynomial) → side ≤ 1 → ¬ Annihilator n p (part side s f) (points s)
+  pub none_differs : j.degree ≡ None → (side d : ℕ) → side ≤ 1 → d ≤ n → GivenEqual j side d
+  pub none_annihilates : j.degree ≡ None → (side : ℕ) (p : Polynomial) → side ≤ 1 → ¬ Annihilator n p (part side s f) (points s)
 
 -- demand 3
 pub record Demand3 : Type 0 where

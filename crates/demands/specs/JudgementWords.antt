@@ -12,9 +12,12 @@
 --   HandOverWords n side w handed  those on what Hand over hands back of the buffers w for a side
 --   SheetWords                     those on what the sheet is made of, on its lines, and on a refused file
 --   JudgementWords                 all of them
-use Rattle.std.specs.Prelude.{◌≡◌, true, ◌↔◌, ℕ, suc, ◌+◌, ◌^◌, ◌/◌, ◌%◌, ◌≤◌, ◌<◌, length, get_or, take, replicate}
+use Rattle.std.specs.Prelude.{◌≡◌, true, ◌↔◌, ℕ, suc, ◌+◌, ◌^◌, ◌/◌, ◌%◌, ◌≤◌, ◌<◌, length, get_or, take, Result, None, Some, Ok, Err}
+use Rattle.refusal.specs.Refusal.{number_of}
+use Rattle.matrix.specs.declared.rank.Ranked.{Ranked}
+use Rattle.refusal.specs.Verdict.{Verdict}
+use Rattle.refusal.specs.declared.Refusal.{Refusal}
 use mathlib.Core.List.{List, [], ◌∷◌, ◌++◌, Memᴰ}
-use Rattle.std.proofs.Math.Option.{none, some}
 use Rattle.cube.specs.NumberLists.{below, select, lists}
 use Rattle.cube.specs.Cube.{Taps, size, within, weight}
 use Rattle.cube.specs.Mask.{WellFormed, member, points, mask}
@@ -31,7 +34,6 @@ use Rattle.gf2.specs.Meeting.{Step, KeptPoint}
 use Rattle.packed.specs.Packed.{zeros}
 use Rattle.point_rows.specs.Rows.{row, rows}
 use Rattle.matrix.specs.Matrix.{eliminated}
-use Rattle.matrix.specs.declared.rank.RankAnswer.{RankAnswer}
 use Rattle.matrix.specs.Rank.{Ranking, rank_outcome, outcome_of as rank_outcome_of, RankContract}
 use Rattle.filter.specs.Sides.{Sides, of_side}
 use Rattle.filter.specs.Part.{part}
@@ -45,9 +47,7 @@ use Rattle.immunity.specs.Judgement.{summed, Judgement, set_rank, part_ranks, Gi
 use Rattle.immunity.specs.Certificate.{bit_of, IsCertificate}
 use Rattle.judge.specs.declared.JudgeAnswer.{JudgeAnswer}
 use Rattle.judge.specs.declared.Report.{Report}
-use Rattle.judge.specs.declared.Finding.TheVariants.{Judged}
 use Rattle.judge.specs.Judge.{judge_outcome, judgement_of, outcome_of as judge_outcome_of, JudgeContract, JudgeAccepts}
-use Rattle.certify.specs.declared.CertifyAnswer.{CertifyAnswer}
 use Rattle.certify.specs.Certify.{certify_outcome, outcome_of as certify_outcome_of, CertifyContract, CertifyAccepts}
 use Rattle.hand_over.specs.HandOver.{HandOverContract}
 use Rattle.text.specs.Text.{ascii, newline, decimal, field, labelled, joined, fields}
@@ -143,9 +143,9 @@ pub record RankWords : Type 0 where
 -- on what Judge answers and leaves for the reported degree
 pub record ReportWords (n : ℕ) (s f : List ℕ) (j : Judgement) (k : ℕ) : Type 0 where
   -- the side is 1 if side 1 differs at k,
-  pub side_1 : ¬ GivenEqual j 1 k → j.side ≡ some 1
+  pub side_1 : ¬ GivenEqual j 1 k → j.side ≡ Some 1
   -- else 0
-  pub side_0 : GivenEqual j 1 k → j.side ≡ some 0
+  pub side_0 : GivenEqual j 1 k → j.side ≡ Some 0
   -- a side's buffer holds the side's witness if that side differs at k,
   pub witness : (side : ℕ) → side ≤ 1 → ¬ GivenEqual j side k → IsWitness graded n k (points s) (part side s f) (member (of_side side j.witnesses))
   -- else zeros
@@ -167,10 +167,10 @@ pub record JudgeWords (n : ℕ) (s f : List ℕ) (j : Judgement) : Type 0 where
   pub buffer_long : (side : ℕ) → side ≤ 1 → length (of_side side j.witnesses) ≡ 512
   pub buffer_formed : (side : ℕ) → side ≤ 1 → WellFormed n (of_side side j.witnesses)
   -- side and witnesses are those of the reported degree;
-  pub reported : (k : ℕ) → j.degree ≡ some k → ReportWords n s f j k
+  pub reported : (k : ℕ) → j.degree ≡ Some k → ReportWords n s f j k
   -- without a degree there is no side, and both buffers are zeros
-  pub no_side : j.degree ≡ none → j.side ≡ none
-  pub no_witnesses : j.degree ≡ none → (side : ℕ) → side ≤ 1 → of_side side j.witnesses ≡ zeros 512
+  pub no_side : j.degree ≡ None → j.side ≡ None
+  pub no_witnesses : j.degree ≡ None → (side : ℕ) → side ≤ 1 → of_side side j.witnesses ≡ zeros 512
   -- Certify refuses by 12 exactly where at d the part's rank differs from that of S
   pub differs_12 : (side d : ℕ) → side ≤ 1 → d ≤ n → (certify_outcome graded s f n side d 8192 4096 ≡ refused 12) ↔ (¬ GivenEqual j side d)
 
@@ -205,8 +205,8 @@ pub record SheetWords : Type 0 where
   pub ranks_printed : (n : ℕ) (rs : List Ranks)
       → rank_lines n rs ≡ joined (λ d. let r : Ranks = get_or rs d no_ranks in decimal d ++ field r.set ++ field r.one ++ field r.zero ++ newline) (below (n + 1))
   -- the sums are those of degree k - 1, side 1 then 0; none if k is 0, and none without a degree
-  pub sums_printed : (n : ℕ) (s f : List ℕ) → (sums n s f none ≡ []) × (sums n s f (some 0) ≡ [])
-      × ((d : ℕ) → sums n s f (some (suc d)) ≡ side_sums n s f d 1 ++ side_sums n s f d 0)
+  pub sums_printed : (n : ℕ) (s f : List ℕ) → (sums n s f None ≡ []) × (sums n s f (Some 0) ≡ [])
+      × ((d : ℕ) → sums n s f (Some (suc d)) ≡ side_sums n s f d 1 ++ side_sums n s f d 0)
   -- a line of them has the side, the point, and the points that the certificate names for it, rising
   pub sum_printed : (side : ℕ) (c ps : List ℕ)
       → sum_lines side c ps ≡ joined (λ a. labelled "side" side ++ labelled " point" a ++ ascii " sum" ++ fields (select (bit_of c a) (below 512)) ++ newline) ps
@@ -232,25 +232,25 @@ pub record JudgementWords : Type 0 where
   pub hand_over : (n side : ℕ) (w : Sides (List ℕ)) (handed : List ℕ) → HandOverContract n side w handed → HandOverWords n side w handed
   -- every report of Judge, lent buffers of any lengths, is with the ranks that are answered beside it and with what is left in the buffers a judgement that Judge accepts: all that the demands and the sentences say of such, it says
   pub report_accepted : (n : ℕ) (s f ws ws' : List ℕ) (w w' : Sides (List ℕ)) (m m' : List ℕ) (a : JudgeAnswer) (r : Report)
-      → JudgeContract (judge_outcome graded s f n (length ws) (length w.one) (length w.zero) (length m)) ws ws' w w' m m' a → a.finding ≡ Judged r
+      → JudgeContract (judge_outcome graded s f n (length ws) (length w.one) (length w.zero) (length m)) ws ws' w w' m m' (Ok a) → a.report ≡ Some r
       → JudgeAccepts graded n s f (judgement_of r a.ranks w' m')
   -- an answer is a refusal exactly when the outcome is, by the same number: of Rank,
-  pub rank_answers : (o : Outcome Ranking) (ws ws' m m' : List ℕ) (a : RankAnswer) (k : ℕ) → RankContract o ws ws' m m' a → (rank_outcome_of a m' ≡ refused k) ↔ (o ≡ refused k)
+  pub rank_answers : (o : Outcome Ranking) (ws ws' m m' : List ℕ) (a : Result Ranked Refusal) (k : ℕ) → RankContract o ws ws' m m' a → (rank_outcome_of a m' ≡ refused k) ↔ (o ≡ refused k)
   -- of Judge,
-  pub judge_answers : (o : Outcome Judgement) (ws ws' : List ℕ) (w w' : Sides (List ℕ)) (m m' : List ℕ) (a : JudgeAnswer) (k : ℕ)
+  pub judge_answers : (o : Outcome Judgement) (ws ws' : List ℕ) (w w' : Sides (List ℕ)) (m m' : List ℕ) (a : Result JudgeAnswer Refusal) (k : ℕ)
       → JudgeContract o ws ws' w w' m m' a → (judge_outcome_of a w' m' ≡ refused k) ↔ (o ≡ refused k)
   -- and of Certify
-  pub certify_answers : (o : Outcome (List ℕ)) (ws ws' c c' : List ℕ) (a : CertifyAnswer) (k : ℕ) → CertifyContract o ws ws' c c' a → (certify_outcome_of a c' ≡ refused k) ↔ (o ≡ refused k)
+  pub certify_answers : (o : Outcome (List ℕ)) (ws ws' c c' : List ℕ) (a : Verdict) (k : ℕ) → CertifyContract o ws ws' c c' a → (certify_outcome_of a c' ≡ refused k) ↔ (o ≡ refused k)
   -- after acceptance the workspace is all zero: of Rank,
-  pub rank_zeros : (o : Outcome Ranking) (ws ws' m m' : List ℕ) (a : RankAnswer) (r : Ranking) → RankContract o ws ws' m m' a → o ≡ accepted r → ws' ≡ zeros (length ws)
+  pub rank_zeros : (o : Outcome Ranking) (ws ws' m m' : List ℕ) (a : Result Ranked Refusal) (r : Ranking) → RankContract o ws ws' m m' a → o ≡ accepted r → ws' ≡ zeros (length ws)
   -- of Judge,
-  pub judge_zeros : (o : Outcome Judgement) (ws ws' : List ℕ) (w w' : Sides (List ℕ)) (m m' : List ℕ) (a : JudgeAnswer) (j : Judgement)
+  pub judge_zeros : (o : Outcome Judgement) (ws ws' : List ℕ) (w w' : Sides (List ℕ)) (m m' : List ℕ) (a : Result JudgeAnswer Refusal) (j : Judgement)
       → JudgeContract o ws ws' w w' m m' a → o ≡ accepted j → ws' ≡ zeros (length ws)
   -- and of Certify
-  pub certify_zeros : (o : Outcome (List ℕ)) (ws ws' c c' : List ℕ) (a : CertifyAnswer) (x : List ℕ)
+  pub certify_zeros : (o : Outcome (List ℕ)) (ws ws' c c' : List ℕ) (a : Verdict) (x : List ℕ)
       → CertifyContract o ws ws' c c' a → o ≡ accepted x → ws' ≡ zeros (length ws)
-  -- a refusal of Judge answers its number alone: the ranks beside it are all 0
-  pub judge_number_alone : (o : Outcome Judgement) (ws ws' : List ℕ) (w w' : Sides (List ℕ)) (m m' : List ℕ) (a : JudgeAnswer) (k : ℕ)
-      → JudgeContract o ws ws' w w' m m' a → o ≡ refused k → a.ranks ≡ replicate 10 no_ranks
+  -- a refusal of Judge answers its number alone, and no ranks beside it
+  pub judge_number_alone : (o : Outcome Judgement) (ws ws' : List ℕ) (w w' : Sides (List ℕ)) (m m' : List ℕ) (a : Result JudgeAnswer Refusal) (k : ℕ)
+      → JudgeContract o ws ws' w w' m m' a → o ≡ refused k → (x : Refusal) × (a ≡ Err x) × (number_of x ≡ k)
   -- on what the sheet is made of, on its lines, and on a refused file
   pub sheet : SheetWords

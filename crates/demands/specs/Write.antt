@@ -4,19 +4,18 @@
 --   Writable n s f        the triple of n taps, the set s and the table f is accepted: Write accepts it, lent an output that is long enough
 --   write_rules s f n m   the rules of Write, lent the set s, the table f and an output of m bytes, in the order of checking
 --   RoundTrips            what is promised of Write: both round trips with Read, one file for each triple, the answer, the output and the refusals
-use Rattle.std.specs.Prelude.{◌≡◌, ◌↔◌, ◌≢◌, List, [], ◌∷◌, ◌++◌, ℕ, ◌≤◌, ◌<◌, length, take, drop}
+use Rattle.std.specs.Prelude.{◌≡◌, ◌↔◌, ◌≢◌, List, [], ◌∷◌, ◌++◌, ℕ, ◌≤◌, ◌<◌, length, take, drop, Result}
+use Rattle.refusal.specs.declared.Refusal.{Refusal}
 use Rattle.cube.specs.NumberLists.{lists}
 use Rattle.cube.specs.Cube.{Taps}
 use Rattle.cube.specs.Mask.{WellFormed, mask}
 use Rattle.order.specs.BuiltIn.{graded}
 use Rattle.refusal.specs.Rule.{Rule, ◌unless◌, FirstBroken}
-use Rattle.refusal.specs.Outcome.{Outcome, refused, accepted}
+use Rattle.refusal.specs.Outcome.{Outcome, refused, accepted, outcome_of}
 use Rattle.varint.specs.Varint.{Bytes}
-use Rattle.filter_file.specs.declared.read.ReadAnswer.{ReadAnswer}
-use Rattle.filter_file.specs.declared.write.WriteAnswer.{WriteAnswer}
 use Rattle.filter_file.specs.File.{Contents}
-use Rattle.filter_file.specs.Read.{read_outcome, ReadContract, reading, outcome_of as reading_of}
-use Rattle.filter_file.specs.Write.{file_of, write_outcome, WriteContract, WriteAccepts, outcome_of as writing_of}
+use Rattle.filter_file.specs.Read.{read_outcome, ReadContract, reading}
+use Rattle.filter_file.specs.Write.{file_of, write_outcome, WriteContract, WriteAccepts}
 use Rattle.immunity.specs.Judgement.{Judgement}
 use Rattle.judge.specs.Judge.{judge_outcome, JudgeAccepts}
 
@@ -44,16 +43,16 @@ write_rules s f n m =
 pub record RoundTrips : Type 0 where
   -- what Write leaves, the first k bytes where it answers k, Read, lent buffers of the right lengths, reads as the same n, and leaves the same 512
   -- bytes of set and of table, whatever its buffers held
-  pub written_read : (n : ℕ) (s f out₀ out₁ : List ℕ) (w : WriteAnswer) (k : ℕ)
-      → WriteContract (write_outcome s f n (length out₀)) w out₀ out₁ → writing_of w ≡ accepted k
-      → (r : ReadAnswer) (set₀ set₁ table₀ table₁ : List ℕ) → length set₀ ≡ 512 → length table₀ ≡ 512
+  pub written_read : (n : ℕ) (s f out₀ out₁ : List ℕ) (w : Result ℕ Refusal) (k : ℕ)
+      → WriteContract (write_outcome s f n (length out₀)) w out₀ out₁ → outcome_of w ≡ accepted k
+      → (r : Result ℕ Refusal) (set₀ set₁ table₀ table₁ : List ℕ) → length set₀ ≡ 512 → length table₀ ≡ 512
       → ReadContract (read_outcome (length set₀) (length table₀) (take k out₁)) r set₀ set₁ table₀ table₁
-      → (reading_of r ≡ accepted n) × (set₁ ≡ s) × (table₁ ≡ f)
+      → (outcome_of r ≡ accepted n) × (set₁ ≡ s) × (table₁ ≡ f)
   -- a file that Read accepts, written again from what Read left, is the same bytes and the same length, in every output that is long enough
-  pub read_written : (file : List ℕ) (r : ReadAnswer) (n : ℕ) (set₀ set₁ table₀ table₁ : List ℕ) → Bytes file
-      → ReadContract (read_outcome (length set₀) (length table₀) file) r set₀ set₁ table₀ table₁ → reading_of r ≡ accepted n
-      → (w : WriteAnswer) (out₀ out₁ : List ℕ) → length file ≤ length out₀ → WriteContract (write_outcome set₁ table₁ n (length out₀)) w out₀ out₁
-      → (writing_of w ≡ accepted (length file)) × (out₁ ≡ file ++ drop (length file) out₀)
+  pub read_written : (file : List ℕ) (r : Result ℕ Refusal) (n : ℕ) (set₀ set₁ table₀ table₁ : List ℕ) → Bytes file
+      → ReadContract (read_outcome (length set₀) (length table₀) file) r set₀ set₁ table₀ table₁ → outcome_of r ≡ accepted n
+      → (w : Result ℕ Refusal) (out₀ out₁ : List ℕ) → length file ≤ length out₀ → WriteContract (write_outcome set₁ table₁ n (length out₀)) w out₀ out₁
+      → (outcome_of w ≡ accepted (length file)) × (out₁ ≡ file ++ drop (length file) out₀)
   -- Write accepts and writes a file exactly when Read takes that file back to the same n, set and table, and the output is not shorter
   pub writes : (n : ℕ) (s f : List ℕ) (m : ℕ) (file : List ℕ) → WriteAccepts n s f m file ↔ (ReadBack file n s f × (length file ≤ m))
   -- two different accepted triples have different files
@@ -66,12 +65,12 @@ pub record RoundTrips : Type 0 where
   -- 2,053 bytes are enough for every accepted triple
   pub enough : (n : ℕ) (s f : List ℕ) (m : ℕ) → Writable n s f → 2053 ≤ m → (file : List ℕ) × WriteAccepts n s f m file
   -- an acceptance answers the length; the output's first bytes are the file, and the rest is as at entry
-  pub accepted_leaves : (o : Outcome (List ℕ)) (w : WriteAnswer) (out₀ out₁ file : List ℕ) → WriteContract o w out₀ out₁ → o ≡ accepted file
-      → (writing_of w ≡ accepted (length file)) × (take (length file) out₁ ≡ file) × (drop (length file) out₁ ≡ drop (length file) out₀)
+  pub accepted_leaves : (o : Outcome (List ℕ)) (w : Result ℕ Refusal) (out₀ out₁ file : List ℕ) → WriteContract o w out₀ out₁ → o ≡ accepted file
+      → (outcome_of w ≡ accepted (length file)) × (take (length file) out₁ ≡ file) × (drop (length file) out₁ ≡ drop (length file) out₀)
   -- a refusal is by the number of the first rule that does not hold
   pub refuses : (n : ℕ) (s f : List ℕ) (m k : ℕ) → (write_outcome s f n m ≡ refused k) ↔ FirstBroken (write_rules s f n m) k
   -- an answer is a refusal exactly when the outcome is, by the same number
-  pub refusal_answered : (o : Outcome (List ℕ)) (w : WriteAnswer) (out₀ out₁ : List ℕ) (k : ℕ) → WriteContract o w out₀ out₁ → (writing_of w ≡ refused k) ↔ (o ≡ refused k)
+  pub refusal_answered : (o : Outcome (List ℕ)) (w : Result ℕ Refusal) (out₀ out₁ : List ℕ) (k : ℕ) → WriteContract o w out₀ out₁ → (outcome_of w ≡ refused k) ↔ (o ≡ refused k)
   -- Write checks set, table and n as Judge does, lent a workspace, witness buffers and a mask of kept points of the right lengths: what one accepts, the other accepts,
   pub accepts_as_judge : (n : ℕ) (s f : List ℕ) → Writable n s f ↔ ((j : Judgement) × JudgeAccepts graded n s f j)
   -- and what one refuses, save by 13, the other refuses by the same number, whatever the length of the output

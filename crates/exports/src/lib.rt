@@ -4,7 +4,7 @@
 #![tactic(auto)]
 
 ghost use Rattle.std.specs.Prelude.{◌≡◌, length};
-ghost use Rattle.refusal.specs.Outcome.{left_by};
+ghost use Rattle.refusal.specs.Outcome.{left_by, outcome_of};
 ghost use Rattle.refusal.specs.Status.{status_of};
 ghost use Rattle.order.specs.BuiltIn.{graded};
 ghost use Rattle.filter.specs.Sides.{pair};
@@ -20,27 +20,25 @@ ghost use Rattle.checker.specs.Check.{check_outcome};
 ghost use Rattle.rearrange.specs.Rearrange.{rearrange_outcome};
 ghost use Rattle.exports.specs.Exported.{ReadStatus, WriteStatus, RankStatus, JudgeStatus, CertifyStatus, CheckStatus, in_front, HandOverStatus, RearrangeStatus};
 
-use buffer::append;
-use certify::CertifyAnswer;
-use checker::CheckAnswer;
-use filter_file::read::ReadAnswer;
-use filter_file::write::WriteAnswer;
 use judge_report::{REPORT, write_report};
-use matrix::rank::RankAnswer;
-use polynomial::convert::ConvertAnswer;
-use polynomial::degree::DegreeAnswer;
-use rearrange::RearrangeAnswer;
 use refusal::Refusal;
+
+// The status of an answer: 0, or the number of the refusal.
+fn status(answer: Result<(), Refusal>) -> u8
+    ensures { result ≡ status_of (outcome_of answer) }
+{
+    match answer {
+        Ok(()) => 0,
+        Err(x) => u8::from(x),
+    }
+}
 
 // Convert.
 #[unsafe(no_mangle)]
 pub extern "C" fn ekthavrul_convert(bytes: &mut [u8], n: usize) -> u8
     ensures { (result ≡ status_of (convert_outcome n bytes.old)) × (bytes.new ≡ convert_leaves n bytes.old) }
 {
-    match polynomial::convert::convert(bytes, n) {
-        ConvertAnswer::Refused(x) => refusal::number(x),
-        ConvertAnswer::Accepted => 0,
-    }
+    status(polynomial::convert::convert(bytes, n))
 }
 
 // Degree.
@@ -49,9 +47,9 @@ pub extern "C" fn ekthavrul_degree(coefficients: &[u8], n: usize, degree: &mut u
     ensures { (result ≡ status_of (degree_outcome n coefficients.now)) × (degree.new ≡ left_by (degree_outcome n coefficients.now) degree.old (λ d. d)) }
 {
     match polynomial::degree::degree(coefficients, n) {
-        DegreeAnswer::Refused(x) => refusal::number(x),
-        DegreeAnswer::Accepted(d) => {
-            *degree = d as u32;
+        Err(x) => u8::from(x),
+        Ok(d) => {
+            *degree = u32::from(d);
             0
         }
     }
@@ -63,8 +61,8 @@ pub extern "C" fn ekthavrul_read(file: &[u8], set: &mut [u8], table: &mut [u8], 
     ensures { ReadStatus (read_outcome (length set.old) (length table.old) file.now) set.old set.new table.old table.new n.old n.new result }
 {
     match filter_file::read::read(file, set, table) {
-        ReadAnswer::Refused(x) => refusal::number(x),
-        ReadAnswer::Accepted(taps) => {
+        Err(x) => u8::from(x),
+        Ok(taps) => {
             *n = taps;
             0
         }
@@ -83,8 +81,8 @@ pub extern "C" fn ekthavrul_write(
     ensures { WriteStatus (write_outcome set.now table.now n (length output.old)) output.old output.new written.old written.new result }
 {
     match filter_file::write::write(set, table, n, output) {
-        WriteAnswer::Refused(x) => refusal::number(x),
-        WriteAnswer::Accepted(length) => {
+        Err(x) => u8::from(x),
+        Ok(length) => {
             *written = length;
             0
         }
@@ -106,8 +104,8 @@ pub extern "C" fn ekthavrul_rank(
         workspace.old workspace.new kept.old kept.new rank.old rank.new additions.old additions.new result }
 {
     match matrix::rank::rank(mask, n, d, workspace, kept) {
-        RankAnswer::Refused(x) => refusal::number(x),
-        RankAnswer::Accepted(found) => {
+        Err(x) => u8::from(x),
+        Ok(found) => {
             *rank = found.rank;
             *additions = found.additions;
             0
@@ -133,10 +131,10 @@ pub extern "C" fn ekthavrul_judge(
         workspace.old workspace.new (pair one.old zero.old) (pair one.new zero.new) kept.old kept.new report.old report.new result }
 {
     if report.len() != REPORT {
-        return refusal::number(Refusal::Length);
+        return u8::from(Refusal::Length);
     }
     let answer = judge::judge(set, table, n, workspace, one, zero, kept);
-    write_report(answer, report)
+    write_report(answer, report.as_mut_array::<REPORT>().unwrap())
 }
 
 // Certify: the certificate goes to `certificate`.
@@ -153,10 +151,7 @@ pub extern "C" fn ekthavrul_certify(
     ensures { CertifyStatus (certify_outcome graded set.now table.now n side d (length workspace.old) (length certificate.old))
         workspace.old workspace.new certificate.old certificate.new result }
 {
-    match certify::certify(set, table, n, side, d, workspace, certificate) {
-        CertifyAnswer::Refused(x) => refusal::number(x),
-        CertifyAnswer::Accepted => 0,
-    }
+    status(certify::certify(set, table, n, side, d, workspace, certificate))
 }
 
 // Check: 1 for yes, or 0 for no, goes to `yes`.
@@ -173,27 +168,21 @@ pub extern "C" fn ekthavrul_check(
     ensures { CheckStatus (check_outcome graded set.now table.now n side d certificate.now) yes.old yes.new result }
 {
     match checker::check(set, table, n, side, d, certificate) {
-        CheckAnswer::Refused(x) => refusal::number(x),
-        CheckAnswer::Yes => {
-            *yes = 1;
-            0
-        }
-        CheckAnswer::No => {
-            *yes = 0;
+        Err(x) => u8::from(x),
+        Ok(certified) => {
+            *yes = u8::from(certified);
             0
         }
     }
 }
 
 // The bytes of `part` are copied to the front of `copy`, as many as it has room for.
+#[tactic(auto, unfolding(crate::specs::Exported::in_front))]
 fn copy_front(part: &[u8], copy: &mut [u8])
     ensures { copy.new ≡ in_front part.now copy.old }
 {
-    if part.len() <= copy.len() {
-        append(copy, 0, part);
-        return;
-    }
-    append(copy, 0, &part[..copy.len()]);
+    let room = part.len().min(copy.len());
+    copy[..room].copy_from_slice(&part[..room]);
 }
 
 // Hand over: the part handed back is copied to the front of `copy`, as far as it has room. The result is the part's
@@ -223,8 +212,5 @@ pub extern "C" fn ekthavrul_rearrange(
 ) -> u8
     ensures { RearrangeStatus (rearrange_outcome set.old table.old n wiring.now) set.old set.new table.old table.new result }
 {
-    match rearrange::rearrange(set, table, n, wiring) {
-        RearrangeAnswer::Refused(x) => refusal::number(x),
-        RearrangeAnswer::Accepted => 0,
-    }
+    status(rearrange::rearrange(set, table, n, wiring))
 }

@@ -13,8 +13,7 @@
 --   holds_fact c     whether a fact is so of a case
 --   holds c          whether each fact of a case is so
 --   cases            the list
-use Rattle.std.specs.Prelude.{Bool, true, false, ◌&&◌, List, [], ◌∷◌, ◌++◌, map, ℕ, ◌+◌, eqb}
-use Rattle.std.proofs.Math.Option.{Option, none, some}
+use Rattle.std.specs.Prelude.{Bool, true, false, ◌&&◌, List, [], ◌∷◌, ◌++◌, map, ℕ, ◌+◌, eqb, Option, None, Some}
 use Prim.Native.String.{String}
 use Rattle.cube.specs.NumberLists.{below, lists}
 use Rattle.cube.specs.Mask.{mask}
@@ -78,10 +77,10 @@ same_list (x ∷ xs) (y ∷ ys) = eqb x y && same_list xs ys
 
 -- both are none, or the same number
 unfoldable pub same_option : Option ℕ → Option ℕ → Bool
-same_option none none = true
-same_option none (some y) = false
-same_option (some x) none = false
-same_option (some x) (some y) = eqb x y
+same_option None None = true
+same_option None (Some y) = false
+same_option (Some x) None = false
+same_option (Some x) (Some y) = eqb x y
 
 -- an acceptance with values that pass a test
 unfoldable pub on_accepted : {A : Type 0} → (A → Bool) → Outcome A → Bool
@@ -175,14 +174,14 @@ cases =
       taps = 3;
       set = 0 ∷ 1 ∷ 2 ∷ 3 ∷ 4 ∷ 5 ∷ 6 ∷ 7 ∷ [];
       table = 3 ∷ 5 ∷ 6 ∷ 7 ∷ [];
-      facts = judgement (ranks 1 4 4 4 ∷ mark (some 2) ∷ degree (some 2) ∷ side (some 1) ∷ kept (0 ∷ 1 ∷ 2 ∷ 3 ∷ 4 ∷ 5 ∷ 6 ∷ []) ∷ []) ∷ [];
+      facts = judgement (ranks 1 4 4 4 ∷ mark (Some 2) ∷ degree (Some 2) ∷ side (Some 1) ∷ kept (0 ∷ 1 ∷ 2 ∷ 3 ∷ 4 ∷ 5 ∷ 6 ∷ []) ∷ []) ∷ [];
     }
     -- case 7
     ∷ record {
       taps = 4;
       set = 0 ∷ 3 ∷ 5 ∷ 6 ∷ 9 ∷ 10 ∷ 12 ∷ 15 ∷ [];
       table = 6 ∷ 10 ∷ 12 ∷ 15 ∷ [];
-      facts = judgement (ranks 1 4 4 4 ∷ mark (some 2) ∷ degree (some 2) ∷ []) ∷ [];
+      facts = judgement (ranks 1 4 4 4 ∷ mark (Some 2) ∷ degree (Some 2) ∷ []) ∷ [];
     }
     -- case 8
     ∷ record {
@@ -190,7 +189,7 @@ cases =
       set = 0 ∷ [];
       table = [];
       facts =
-          judgement (degree (some 0) ∷ side (some 1) ∷ witness 1 (0 ∷ []) ∷ [])
+          judgement (degree (Some 0) ∷ side (Some 1) ∷ witness 1 (0 ∷ []) ∷ [])
           ∷ printed
           (1 ∷ 1 ∷ 0 ∷ 0 ∷ [])
           ("n 1 points 1 mark 0" ∷ "0 1 0 1" ∷ "1 1 0 1" ∷ "degree 0 side 1 witness 0" ∷ "sides 0 none" ∷ "additions 0" ∷ [])
@@ -202,7 +201,7 @@ cases =
       set = 0 ∷ [];
       table = 0 ∷ [];
       facts =
-          judgement (degree (some 0) ∷ side (some 0) ∷ witness 0 (0 ∷ []) ∷ [])
+          judgement (degree (Some 0) ∷ side (Some 0) ∷ witness 0 (0 ∷ []) ∷ [])
           ∷ printed
           (1 ∷ 1 ∷ 0 ∷ 1 ∷ 0 ∷ [])
           ("n 1 points 1 mark 0" ∷ "0 1 1 0" ∷ "1 1 1 0" ∷ "degree 0 side 0 witness 0" ∷ "sides none 0" ∷ "additions 0" ∷ [])
@@ -213,7 +212,7 @@ cases =
       taps = 2;
       set = 1 ∷ 2 ∷ [];
       table = 1 ∷ [];
-      facts = judgement (set_ranks (1 ∷ 2 ∷ 2 ∷ []) ∷ mark (some 1) ∷ degree (some 1) ∷ side (some 1) ∷ witness 1 (0 ∷ 1 ∷ []) ∷ kept (1 ∷ 2 ∷ []) ∷ []) ∷ [];
+      facts = judgement (set_ranks (1 ∷ 2 ∷ 2 ∷ []) ∷ mark (Some 1) ∷ degree (Some 1) ∷ side (Some 1) ∷ witness 1 (0 ∷ 1 ∷ []) ∷ kept (1 ∷ 2 ∷ []) ∷ []) ∷ [];
     }
     -- case 11: weight 2 in four taps
     ∷ record {
@@ -221,7 +220,7 @@ cases =
       set = 3 ∷ 5 ∷ 6 ∷ 9 ∷ 10 ∷ 12 ∷ [];
       table = 3 ∷ 5 ∷ 6 ∷ [];
       facts =
-          judgement (set_ranks (1 ∷ 4 ∷ 6 ∷ 6 ∷ 6 ∷ []) ∷ mark (some 1) ∷ kept (3 ∷ 5 ∷ 6 ∷ 9 ∷ []) ∷ [])
+          judgement (set_ranks (1 ∷ 4 ∷ 6 ∷ 6 ∷ 6 ∷ []) ∷ mark (Some 1) ∷ kept (3 ∷ 5 ∷ 6 ∷ 9 ∷ []) ∷ [])
           ∷ printed
           (4 ∷ 6 ∷ 3 ∷ 2 ∷ 1 ∷ 3 ∷ 1 ∷ 2 ∷ 3 ∷ 3 ∷ 2 ∷ 1 ∷ [])
           (
@@ -250,7 +249,7 @@ cases =
       set = [];
       table = [];
       facts =
-          judgement (ranks 0 0 0 0 ∷ ranks 1 0 0 0 ∷ mark none ∷ degree none ∷ side none ∷ sides none none ∷ witness 1 [] ∷ witness 0 [] ∷ kept [] ∷ [])
+          judgement (ranks 0 0 0 0 ∷ ranks 1 0 0 0 ∷ mark None ∷ degree None ∷ side None ∷ sides None None ∷ witness 1 [] ∷ witness 0 [] ∷ kept [] ∷ [])
           ∷ printed
           (1 ∷ 0 ∷ 0 ∷ [])
           ("n 1 points 0 mark none" ∷ "0 0 0 0" ∷ "1 0 0 0" ∷ "degree none" ∷ "sides none none" ∷ "additions 0" ∷ [])
@@ -263,7 +262,7 @@ cases =
       table = 3 ∷ 5 ∷ 6 ∷ [];
       facts =
           judgement (
-          set_ranks (0 ∷ 0 ∷ 0 ∷ 0 ∷ 0 ∷ []) ∷ ranks 4 0 0 0 ∷ mark none ∷ degree none ∷ side none ∷ sides none none ∷ witness 1 [] ∷ witness 0 [] ∷ kept [] ∷ []
+          set_ranks (0 ∷ 0 ∷ 0 ∷ 0 ∷ 0 ∷ []) ∷ ranks 4 0 0 0 ∷ mark None ∷ degree None ∷ side None ∷ sides None None ∷ witness 1 [] ∷ witness 0 [] ∷ kept [] ∷ []
           )
           ∷ printed
           (4 ∷ 0 ∷ 3 ∷ 3 ∷ 2 ∷ 1 ∷ [])

@@ -11,7 +11,8 @@ use std::io::{Read, Write};
 
 const READ_AT_MOST: usize = 4096;
 
-// Reads until the buffer is full or the input ends: how many bytes are read.
+// Reads until the buffer is full or the input ends: how many bytes are read. The library reads so only into memory that it
+// asks for, and the program asks for none.
 fn read_full(input: &mut impl Read, buffer: &mut [u8]) -> io::Result<usize>
     ensures { IfOk result (λ n. n ≤ length buffer.new) }
 {

@@ -1,2 +1,3 @@
 -- Laws of the points that the sums are printed for.
 pub mod OutsideTo
+pub mod PointRows

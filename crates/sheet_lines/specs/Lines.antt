@@ -11,8 +11,7 @@
 --   sum_line side a qs       a side, a point, and points whose rows sum to its row
 --   sum_lines side c ps      the sums that a certificate states for points, rising within a sum
 --   additions_line m         Judge's additions
-use Rattle.std.specs.Prelude.{List, [], ◌++◌, ℕ, ◌+◌, get_or}
-use Rattle.std.proofs.Math.Option.{Option, none, some}
+use Rattle.std.specs.Prelude.{List, [], ◌++◌, ℕ, ◌+◌, get_or, Option, None, Some}
 use Rattle.cube.specs.NumberLists.{below, select}
 use Rattle.cube.specs.Mask.{member}
 use Rattle.order.specs.BuiltIn.{graded}
@@ -24,8 +23,8 @@ use Rattle.text.specs.Text.{Text, ascii, newline, decimal, field, labelled, join
 
 -- a degree, or `none`, after a space
 abbrev pub degree_field : Option ℕ → Text
-degree_field none = ascii " none"
-degree_field (some k) = field k
+degree_field None = ascii " none"
+degree_field (Some k) = field k
 
 -- the line for a refusal
 abbrev pub refused_line : ℕ → Text
@@ -49,8 +48,8 @@ witness_fields side w = labelled " side" side ++ ascii " witness" ++ fields (sel
 
 -- the side and its witness, where there is a side
 abbrev pub side_fields : Option ℕ → Sides (List ℕ) → Text
-side_fields none ws = []
-side_fields (some side) ws = witness_fields side (of_side side ws)
+side_fields None ws = []
+side_fields (Some side) ws = witness_fields side (of_side side ws)
 
 -- the reported degree, the side and its witness; `degree none` alone where there is neither degree nor side
 abbrev pub degree_line : Option ℕ → Option ℕ → Sides (List ℕ) → Text

@@ -11,17 +11,16 @@ use Prim.Native.Nat.{ℕ, suc, ◌<◌}
 use native.Mathlib.Omega.{arith}
 use lib.ListN.{length, get_or}
 use Rattle.refusal.specs.Refusal.{number_of}
-use Rattle.refusal.specs.Outcome.{Outcome, refused, accepted, left_by}
+use Rattle.refusal.specs.Outcome.{Outcome, refused, accepted, left_by, outcome_of}
 use Rattle.refusal.specs.declared.Refusal.{Refusal}
 use Rattle.refusal.proofs.Outcomes.{mapped_refused, mapped_accepted}
 use Rattle.cube.specs.NumberLists.{lists}
 use Rattle.cube.specs.Mask.{mask}
 use Rattle.order.specs.BuiltIn.{graded}
-use Rattle.filter_file.specs.declared.read.ReadAnswer.{ReadAnswer}
-use Rattle.filter_file.specs.declared.read.ReadAnswer.TheVariants.{Accepted, Refused}
+use Rattle.std.specs.Prelude.{Result, Ok, Err}
 use Rattle.filter_file.specs.File.{Contents}
 use Rattle.varint.specs.Varint.{Bytes}
-use Rattle.filter_file.specs.Read.{read_outcome, outcome_of, ReadContract}
+use Rattle.filter_file.specs.Read.{read_outcome, ReadContract}
 use Rattle.immunity.specs.Judgement.{judged}
 use Rattle.judge.specs.Judge.{JudgeAccepts}
 use Rattle.judge.proofs.Passed.{judge_accepts}
@@ -62,7 +61,7 @@ unfolding sheet
 filter_sheet_lem file n s f x = rw (x.n_is, x.set_is, x.table_is) (sym (ap sheet_of x.is))
 
 -- what an acceptance by Read shows
-pub read_filter : (o : Outcome Contents) (r : ReadAnswer) (s₀ s f₀ f : List ℕ) → ReadContract o r s₀ s f₀ f → (n : ℕ) → r ≡ Accepted n → ReadAs o n s f
+pub read_filter : (o : Outcome Contents) (r : Result ℕ Refusal) (s₀ s f₀ f : List ℕ) → ReadContract o r s₀ s f₀ f → (n : ℕ) → r ≡ Ok n → ReadAs o n s f
 read_filter o r s₀ s f₀ f h n e =
     let (c, is, taps) = mapped_accepted (λ c. c.n) o (sym h.answer ∙ ap outcome_of e) in
     record {
@@ -74,7 +73,7 @@ read_filter o r s₀ s f₀ f h n e =
     }
 
 -- what a refusal shows
-pub read_refused : (o : Outcome Contents) (r : ReadAnswer) (s₀ s f₀ f : List ℕ) → ReadContract o r s₀ s f₀ f → (x : Refusal) → r ≡ Refused x → o ≡ refused (number_of x)
+pub read_refused : (o : Outcome Contents) (r : Result ℕ Refusal) (s₀ s f₀ f : List ℕ) → ReadContract o r s₀ s f₀ f → (x : Refusal) → r ≡ Err x → o ≡ refused (number_of x)
 read_refused o r s₀ s f₀ f h x e = mapped_refused (λ c. c.n) o (sym h.answer ∙ ap outcome_of e)
 
 -- the sheet of a file that is refused

@@ -6,8 +6,7 @@
 --   sheet_of o               the sheet for what Read answers
 --   sheet file               the sheet of a file
 --   SheetContract file ..    the contract of the sheet: it stands at the front of the text, its length is answered, and what stood behind stays
-use Rattle.std.specs.Prelude.{◌≡◌, List, [], ◌++◌, ℕ, zero, suc, length, drop}
-use Rattle.std.proofs.Math.Option.{Option, none, some}
+use Rattle.std.specs.Prelude.{◌≡◌, List, [], ◌++◌, ℕ, zero, suc, length, drop, Option, None, Some}
 use Rattle.refusal.specs.Outcome.{Outcome, refused, accepted}
 use Rattle.cube.specs.NumberLists.{lists}
 use Rattle.cube.specs.Mask.{points, mask}
@@ -27,9 +26,9 @@ side_sums n s f d side = sum_lines side (certificate graded n s f side d) (outsi
 
 -- those of degree k - 1, side 1 then 0; none if k is 0, and none without a degree
 abbrev pub sums : ℕ → List ℕ → List ℕ → Option ℕ → Text
-sums n s f none = []
-sums n s f (some zero) = []
-sums n s f (some (suc d)) = side_sums n s f d 1 ++ side_sums n s f d 0
+sums n s f None = []
+sums n s f (Some zero) = []
+sums n s f (Some (suc d)) = side_sums n s f d 1 ++ side_sums n s f d 0
 
 -- the sheet of a judgement
 unfoldable pub judgement_sheet : ℕ → List ℕ → List ℕ → Judgement → Text

@@ -11,7 +11,7 @@ use lib.Dec.{ltb}
 use lib.ListN.{length, length-append}
 use borrow.Author.Tests.{lt-ltb, le-ltb}
 use Rattle.io.specs.Digits.{hex_digit_ascii, IsDigitCount, last_digits as digits_of}
-use Rattle.text.specs.Text.{either, digits, decimal}
+use Rattle.text.specs.Text.{digits, decimal}
 
 -- the last digit
 last_digit : (m : ℕ) → hex_digit_ascii (m % 10) ≡ 48 + m % 10
@@ -43,11 +43,11 @@ unfolding digits
 digits_enough zero k m f l = absurd (omega (arith, f.0))
 digits_enough (suc r) zero m f l = absurd (omega arith)
 digits_enough (suc zero) (suc k) m f l =
-    ap₂ (λ b x. either b [] (digits k (m / 10)) ++ (x ∷ [])) (sym (lt-ltb m 10 (omega (arith, f.1)))) (last_digit m)
+    ap₂ (λ b x. cond b [] (digits k (m / 10)) ++ (x ∷ [])) (sym (lt-ltb m 10 (omega (arith, f.1)))) (last_digit m)
 digits_enough (suc (suc r)) (suc k) m f l =
     let many : 10 ≤ m = omega (arith, least m r f, pow-suc 10 r, one-le-pow r 10 (omega arith)) in
     let tenth : digits_of 10 (suc r) (m / 10) ≡ digits k (m / 10) = digits_enough (suc r) k (m / 10) (fewest_tenth m r f) (omega arith) in
-    ap₂ (λ y x. y ++ (x ∷ [])) (tenth ∙ ap (λ b. either b [] (digits k (m / 10))) (sym (le-ltb m 10 many))) (last_digit m)
+    ap₂ (λ y x. y ++ (x ∷ [])) (tenth ∙ ap (λ b. cond b [] (digits k (m / 10))) (sym (le-ltb m 10 many))) (last_digit m)
 
 -- a power of ten is more than its exponent
 less_power : (k : ℕ) → k < 10 ^ k
@@ -75,7 +75,7 @@ digits_short (suc (suc r)) (suc k) m some l =
     let few : m / 10 < 10 ^ suc r = (div-lt_iff_lt-mul {k = 10} {x = m} {y = 10 ^ suc r} (omega arith)).1 (omega (arith, l, pow-suc 10 (suc r))) in
     go (digits_short (suc r) k (m / 10) (omega arith) few) (ltb m 10)
   where
-    go : length (digits k (m / 10)) ≤ suc r → (b : Bool) → length (either b [] (digits k (m / 10)) ++ ((48 + m % 10) ∷ [])) ≤ suc (suc r)
+    go : length (digits k (m / 10)) ≤ suc r → (b : Bool) → length (cond b [] (digits k (m / 10)) ++ ((48 + m % 10) ∷ [])) ≤ suc (suc r)
     go later true = omega arith
     go later false = omega (arith, later, length-append (digits k (m / 10)) ((48 + m % 10) ∷ []))
 

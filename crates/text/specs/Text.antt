@@ -2,14 +2,13 @@
 --   Text                    a text: the ASCII code of each character
 --   ascii s                 the bytes of a text that is written out
 --   newline                 the byte that ends a line
---   either b x y            one of two texts, by a test
 --   digits k m              the decimal digits of m, the most significant first; k is at least the number of digits
 --   decimal m               the decimal digits of m
 --   field m                 a number after a space
 --   labelled s m            a word, and a number after a space
 --   joined t xs             the texts of the members of a list, one after the other
 --   fields xs               numbers, each after a space
-use Rattle.std.specs.Prelude.{Bool, true, false, List, [], ◌∷◌, ◌++◌, ℕ, zero, suc, ◌+◌, ◌/◌, ◌%◌, ltb}
+use Rattle.std.specs.Prelude.{cond, List, [], ◌∷◌, ◌++◌, ℕ, zero, suc, ◌+◌, ◌/◌, ◌%◌, ltb}
 use Prim.Native.Char.{code}
 use Prim.Native.String.{String}
 use Prim.Native.String as S
@@ -27,15 +26,10 @@ ascii (S.◌∷◌ c s) = code c ∷ ascii s
 abbrev pub newline : Text
 newline = 10 ∷ []
 
--- one of two texts
-abbrev pub either : Bool → Text → Text → Text
-either true x y = x
-either false x y = y
-
 -- the digits of the tenth of a number, then its last digit
 unfoldable pub digits : ℕ → ℕ → Text
 digits zero m = []
-digits (suc k) m = either (ltb m 10) [] (digits k (m / 10)) ++ ((48 + m % 10) ∷ [])
+digits (suc k) m = cond (ltb m 10) [] (digits k (m / 10)) ++ ((48 + m % 10) ∷ [])
 
 -- the decimal digits of a number
 unfoldable pub decimal : ℕ → Text

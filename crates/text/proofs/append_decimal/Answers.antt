@@ -1,5 +1,4 @@
 -- The kit's digits are the decimal ones (decimal_fewest), and no more than the room holds (decimal_short); they are appended.
-use borrow.Author.Rules.{rules}
 use mathlib.Core.Path.{◌≡◌, ap, ◌∙◌}
 use Prim.Native.Nat.{◌≤◌}
 use native.Mathlib.Omega.{arith}

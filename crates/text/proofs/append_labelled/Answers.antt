@@ -1,11 +1,6 @@
-use borrow.Author.Rules.{rules}
-use native.Mathlib.Omega.{arith}
+use Rattle.std.proofs.Common.{arith}
 use Rattle.buffer.proofs.Appending.{appends_then}
 use Rattle.text.proofs.append_labelled.Goals as goal
 
-pub returns : goal.returns
-returns c =
-    record {
-      appends = appends_then (omega arith) c.append-number.ensures c.append_field.ensures.appends;
-      upper_bound = omega arith;
-    }
+pub returns-clause-appends : goal.returns-clause-appends
+returns-clause-appends c = appends_then (omega arith) c.append-number.ensures c.append_field.ensures.appends

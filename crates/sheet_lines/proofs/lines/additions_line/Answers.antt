@@ -1,10 +1,8 @@
-use native.Mathlib.Omega.{arith}
+use Rattle.std.proofs.Common.{arith}
 use Rattle.buffer.proofs.Appending.{appends_then}
 use Rattle.text.specs.Text.{ascii}
 use Rattle.sheet_lines.proofs.lines.additions_line.Goals as goal
 
 pub returns : goal.returns
 unfolding ascii
-returns c =
-    let done = appends_then (omega arith) c.append_labelled-end.ensures.appends c.end_line.ensures in
-    (done, omega arith)
+returns c = rw (← c.from.ensures) (appends_then (omega arith) c.append_labelled-end.ensures.appends c.end_line.ensures, omega arith)

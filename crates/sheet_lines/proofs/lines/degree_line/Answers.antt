@@ -19,6 +19,6 @@ unfolding ascii
 returns c =
     let inside : c.args.at ≤ length c.args.text.now = omega (arith, c.requires) in
     let a = c.args in
-    let one = grouped (labelled "degree" a.k) (labelled " side" a.side) (ascii " witness") (fields (select (member a.witness.now) graded)) in
+    let one = grouped (labelled "degree" a.k) (labelled " side" c.from.result) (ascii " witness") (fields (select (member a.witness.now) graded)) in
     let text = appends_then inside c.append_heading-chosen.ensures.appends c.witness_fields-end.ensures.0 in
-    (appends_then inside (appends_same one text) c.end_line.ensures, omega arith)
+    rw (← c.from.ensures) (appends_then inside (appends_same one text) c.end_line.ensures, omega arith)

@@ -1,7 +1,5 @@
-use mathlib.Core.Path.{◌≡◌}
-use mathlib.Core.List.{List}
-use Prim.Native.Nat.{ℕ, ◌+◌, ◌-◌, ◌*◌, ◌≤◌}
-use lib.ListN.{length, get_or}
+-- The lines of the degrees below d are written, in at most rank_line_room * d bytes from `at` on.
+use Rattle.std.proofs.Common.{ℕ, ◌+◌, ◌*◌, ◌≤◌, List, get_or}
 use Rattle.cube.specs.NumberLists.{below}
 use Rattle.immunity.specs.declared.Ranks.{Ranks}
 use Rattle.immunity.specs.Ranks.{no_ranks}
@@ -16,8 +14,4 @@ abbrev pub line_of : List Ranks → ℕ → List ℕ
 line_of ranks d = rank_line d (get_or ranks d no_ranks)
 
 abbrev pub invariant-loop-d : goal.invariant-loop-d
-invariant-loop-d l =
-    (l.d ≤ l.n + 1) × (l.place ≤ l.at + rank_line_room * l.d) × (length l.text ≡ length l.initial.text) × Appends (joined (line_of l.ranks) (below l.d)) l.initial.text l.text l.at l.place
-
-abbrev pub decreases-loop-d : goal.decreases-loop-d
-decreases-loop-d l = l.n + 1 - l.d
+invariant-loop-d l = (l.place ≤ l.at + rank_line_room * l.d) × Appends (joined (line_of l.fn.ranks) (below l.d)) l.initial.text l.text l.at l.place

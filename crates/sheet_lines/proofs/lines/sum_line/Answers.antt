@@ -9,4 +9,4 @@ pub returns : goal.returns
 unfolding ascii
 returns c =
     let inside : c.args.at ≤ length c.args.text.now = omega (arith, c.requires) in
-    (appends_then inside (appends_then inside c.append_heading-named.ensures.appends c.sum_fields-end.ensures.0) c.end_line.ensures, omega arith)
+    rw (← c.from.ensures, ← c.from-2.ensures) (appends_then inside (appends_then inside c.append_heading-named.ensures.appends c.sum_fields-end.ensures.0) c.end_line.ensures, omega arith)

@@ -14,5 +14,5 @@ pub returns : goal.returns
 returns c =
     let a = c.args in
     subst (λ x. Appends (sum_lines a.side x (outside (points a.set.now) (part a.side a.set.now a.table.now))) a.text.now c.sum_lines.new.text a.at c.sum_lines.result × (c.sum_lines.result ≤ a.at + side_sums_room))
-    (certified_is a.n a.set.now a.table.now a.side a.d c.requires.3 (length-replicate {A = ℕ} 8192 0) (length-replicate {A = ℕ} 4096 0) c.certify.ensures)
+    (certified_is a.n a.set.now a.table.now a.side a.d c.requires.1 (length-replicate {A = ℕ} 8192 0) (length-replicate {A = ℕ} 4096 0) c.certify.ensures)
     c.sum_lines.ensures

@@ -1,2 +1,0 @@
--- Laws of the answers of exported operations.
-pub mod Front
