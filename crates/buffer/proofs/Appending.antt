@@ -1,4 +1,6 @@
 -- Bytes written one behind the other. They are written behind others where the first begin inside the buffer.
+--   paste_turn       a turn of the loop that writes bytes
+--   appends_paste    its end
 --   appends_byte     one byte is stored
 --   appends_none     nothing is written
 --   front_length     the length of what stands before the end of the bytes
@@ -10,13 +12,25 @@
 --   appends_moved    the buffer and the place under other names
 use mathlib.Core.Path.{◌≡◌, refl, sym, ap, ap₂, ◌∙◌, subst}
 use mathlib.Core.List.{List, [], ◌∷◌, ◌++◌, append-nil, append_assoc}
-use Prim.Native.Nat.{ℕ, ◌+◌, ◌≤◌}
+use Prim.Native.Nat.{ℕ, ◌+◌, ◌≤◌, ◌<◌}
 use native.Mathlib.Nat.{add-zero}
 use native.Mathlib.Numerals.{add-one}
 use native.Mathlib.Omega.{arith}
-use lib.ListN.{length, set, take, drop, length-append, take-append-drop, drop_of_length-le}
-use lib.Seq.{set_split, append_snoc, length-take-le, take_at, drop-append-add, drop-drop}
+use lib.ListN.{length, get_or, set, take, drop, length-append, take-append-drop, drop_of_length-le}
+use lib.Seq.{paste, paste-suc, set_split, append_snoc, take-length, length-take-le, take_at, drop-append-add, drop-drop}
 use Rattle.buffer.specs.Appends.{Appends}
+
+-- a turn of the loop that writes the bytes s
+pub paste_turn : (t : List ℕ) (at : ℕ) (s t' : List ℕ) (i : ℕ) → t' ≡ paste t at s i → at + length s ≤ length t → i < length s
+    → set t' (at + i) (get_or s i 0) ≡ paste t at s (i + 1)
+paste_turn t at s t' i e room l = ap (λ x. set x (at + i) (get_or s i 0)) e ∙ paste-suc t at s i 0 (omega arith) l ∙ ap (paste t at s) (sym (add-one i))
+
+-- its end
+pub appends_paste : (t : List ℕ) (at : ℕ) (s t' : List ℕ) (i : ℕ) → t' ≡ paste t at s i → i ≡ length s → Appends s t t' at (at + i)
+appends_paste t at s t' i e l = record {
+  buffer = e ∙ ap (λ x. take at t ++ x ++ drop (at + i) t) (ap (λ k. take k s) l ∙ take-length s);
+  upto = ap (λ k. at + k) l;
+}
 
 -- one byte is stored
 pub appends_byte : (t : List ℕ) (at b : ℕ) → at + 1 ≤ length t → Appends (b ∷ []) t (set t at b) at (at + 1)

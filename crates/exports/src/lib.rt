@@ -20,6 +20,7 @@ ghost use Rattle.checker.specs.Check.{check_outcome};
 ghost use Rattle.rearrange.specs.Rearrange.{rearrange_outcome};
 ghost use Rattle.exports.specs.Exported.{ReadStatus, WriteStatus, RankStatus, JudgeStatus, CertifyStatus, CheckStatus, in_front, HandOverStatus, RearrangeStatus};
 
+use buffer::append;
 use judge_report::{REPORT, write_report};
 use refusal::Refusal;
 
@@ -177,12 +178,11 @@ pub extern "C" fn ekthavrul_check(
 }
 
 // The bytes of `part` are copied to the front of `copy`, as many as it has room for.
-#[tactic(auto, unfolding(crate::specs::Exported::in_front))]
 fn copy_front(part: &[u8], copy: &mut [u8])
     ensures { copy.new ≡ in_front part.now copy.old }
 {
     let room = part.len().min(copy.len());
-    copy[..room].copy_from_slice(&part[..room]);
+    append(copy, 0, &part[..room]);
 }
 
 // Hand over: the part handed back is copied to the front of `copy`, as far as it has room. The result is the part's

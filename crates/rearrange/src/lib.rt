@@ -10,6 +10,7 @@ ghost use Rattle.wiring.specs.Wiring.{Wiring, rewired};
 ghost use Rattle.rearrange.specs.OldPoints.{Doubled, OldPoints, gathered};
 ghost use Rattle.rearrange.specs.Rearrange.{rearrange_checks, rearrange_outcome, RearrangeContract};
 
+use buffer::append;
 use cube::{POINTS, size};
 use filter::checks::{check_filter_lengths, check_filter_masks, check_taps};
 use refusal::Refusal;
@@ -83,6 +84,6 @@ fn rearrange_points(set: &mut [u8], table: &mut [u8], n: usize, wiring: &[u8])
     let old = old_points(wiring, n);
     let new_set = gather(set, &old, n);
     let new_table = gather(table, &old, n);
-    set.copy_from_slice(&new_set);
-    table.copy_from_slice(&new_table);
+    append(set, 0, &new_set);
+    append(table, 0, &new_table);
 }

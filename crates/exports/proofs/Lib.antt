@@ -1,0 +1,2 @@
+-- Laws of the answers of exported operations.
+pub mod Front
