@@ -53,7 +53,8 @@ pub fn graded_order() -> Order
     Order { list: ORDER }
 }
 
-// The exponent at place `i` of an order, or of another list of exponents. A kernel for the crates above.
+// The exponent at place `i` of an order, or of another list of exponents: an order is read through here only. A kernel
+// for the crates above.
 pub fn exponent_at(order: &[u16], i: usize) -> Exponent
     requires { i < length order.now }
     ensures { result.0 ≡ get_or order.now i 0 }

@@ -9,7 +9,7 @@ ghost use Rattle.packed.specs.Packed.{unpacked, number};
 ghost use Rattle.point_rows.specs.Rows.{monomials};
 ghost use Rattle.point_rows.specs.Workspace.{exponents as exponents_of, filled, RowsFrom, Splits};
 
-use cube::{Point, size, within};
+use cube::{POINTS, Point, size, within};
 use order::{Order, exponent_at};
 use packed::workspace::common_row;
 use packed::{COLUMNS, Rows, WORD_BITS};
@@ -36,9 +36,10 @@ fn exponents(order: &Order, n: usize) -> [u16; COLUMNS]
     let points = size(n);
     let mut list = [NO_EXPONENT; COLUMNS];
     let mut count: usize = 0;
-    for &u in &order.list {
-        if (u as usize) < points {
-            list[count] = u;
+    for i in 0..POINTS {
+        let u = exponent_at(&order.list, i);
+        if (u.0 as usize) < points {
+            list[count] = u.0;
             count += 1;
         }
     }

@@ -15,10 +15,10 @@ ghost use Rattle.immunity.specs.Witness.{new_point, witness_at};
 ghost use Rattle.witness.specs.NewRow.{FindsNew};
 
 use cube::mask::Mask;
-use cube::{Exponent, POINTS, Point, size};
+use cube::{POINTS, Point, size};
 use matrix::elimination::{eliminate, take_row};
-use order::Order;
 use order::columns::{column_count, is_column};
+use order::{Order, exponent_at};
 use packed::row::entry;
 use packed::solve::solve_last;
 use packed::{COLUMNS, Row, Rows};
@@ -30,14 +30,14 @@ fn mark_columns(order: &Order, n: usize, d: u16, x: &Row, bytes: &mut Mask)
     ensures { bytes.new ≡ with_ones (chosen (unpack x.now) (columns_of order.now.list n d)) bytes.old }
 {
     let points = size(n);
-    let columns = order
-        .list
-        .iter()
-        .filter(|&&u| is_column(Exponent(u), points, d))
-        .enumerate();
-    for (column, &u) in columns {
-        if entry(x, column) {
-            bytes[u as usize] = 1;
+    let mut column: usize = 0;
+    for i in 0..POINTS {
+        let u = exponent_at(&order.list, i);
+        if is_column(u, points, d) {
+            if entry(x, column) {
+                bytes[u.0 as usize] = 1;
+            }
+            column += 1;
         }
     }
 }

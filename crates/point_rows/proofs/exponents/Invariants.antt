@@ -2,5 +2,5 @@
 use Rattle.point_rows.proofs.ExponentList.{Found}
 use Rattle.point_rows.proofs.exponents.Given as goal
 
-abbrev pub invariant-loop-u : goal.invariant-loop-u
-invariant-loop-u l = Found l.order.list l.n l.u-index l.count l.list
+abbrev pub invariant-loop-i : goal.invariant-loop-i
+invariant-loop-i l = Found l.order.list l.n l.i l.count l.list

@@ -1,18 +1,21 @@
+-- What the bytes are to be is the bytes now, with the columns from place i on marked where x, from column `column` on, is one.
 use mathlib.Core.Path.{◌≡◌}
 use mathlib.Core.List.{List}
-use Prim.Native.Nat.{ℕ}
-use lib.ListN.{length, drop}
+use Prim.Native.Nat.{ℕ, ◌≤◌}
+use lib.ListN.{drop}
 use Rattle.cube.specs.Mask.{with_ones}
 use Rattle.order.specs.Order.{columns}
 use Rattle.gf2.specs.Vector.{Row, chosen}
 use Rattle.packed.specs.Packed.{unpack}
+use Rattle.order.proofs.ColumnCount.{later_columns}
 use Rattle.witness.proofs.mark_columns.Given as goal
 
--- the bytes with the columns of cs from the k-th on marked where v is one
-abbrev pub marked : Row → List ℕ → ℕ → List ℕ → List ℕ
-marked v cs k b = with_ones (chosen (drop k v) (drop k cs)) b
+-- the bytes with the columns from place i on marked, the first of which is column `column` of the row
+abbrev pub marked : List ℕ → ℕ → ℕ → Row → ℕ → ℕ → List ℕ → List ℕ
+marked o n d v column i b = with_ones (chosen (drop column v) (later_columns o n d i)) b
 
--- what the bytes are to be is the bytes so far, with the columns not yet yielded marked
-abbrev pub invariant-loop-column : goal.invariant-loop-column
-invariant-loop-column l =
-    with_ones (chosen (unpack l.x) (columns l.order.list l.n l.fn.d)) l.initial.bytes ≡ marked (unpack l.x) (columns l.order.list l.n l.fn.d) (length l.yielded) l.bytes
+abbrev pub invariant-loop-i : goal.invariant-loop-i
+invariant-loop-i l = record {
+  few : l.column ≤ l.i;
+  same : with_ones (chosen (unpack l.x) (columns l.order.list l.n l.d)) l.initial.bytes ≡ marked l.order.list l.n l.d (unpack l.x) l.column l.i l.bytes;
+}
