@@ -72,6 +72,7 @@ fn column_counts(order: &Order, n: usize) -> [u16; DEGREES]
 // of each: one elimination finds them all. `pivots` and `points` then have the pivot and the point of each kept row: those
 // with pivots below a column are the points kept of the columns before it. The first 512 rows of the workspace are
 // scratch, and the others stay.
+#[inline(never)] // its tally is on the stack only while it runs
 fn mask_ranks(
     ws: &mut Rows,
     mask: &Mask,

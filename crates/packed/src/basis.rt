@@ -15,6 +15,7 @@ use crate::{COLUMNS, Rows};
 
 // Row `row` is reduced by the `kept` rows before it: each of them in whose pivot it has a one is added to it. The result
 // is the number of additions.
+#[inline(never)] // so that the loop has the registers to itself
 pub fn reduce(ws: &mut Rows, pivots: &[u16; COLUMNS], kept: usize, row: usize) -> u32
     requires { (kept ≤ 512) × (kept ≤ row) × (row < 1024) × Pivots pivots.now (unpacked ws.old) kept }
     ensures { Reduces kept row (unpacked ws.old) (unpacked ws.new) result × (result ≤ kept) }
@@ -30,6 +31,7 @@ pub fn reduce(ws: &mut Rows, pivots: &[u16; COLUMNS], kept: usize, row: usize) -
 }
 
 // Row `row` is reduced by the `kept` rows before it, and each addition is counted in `tally` at the pivot of the row added.
+#[inline(never)] // the same
 pub fn reduce_tallied(
     ws: &mut Rows,
     pivots: &[u16; COLUMNS],
