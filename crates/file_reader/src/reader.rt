@@ -1,6 +1,6 @@
 // The reader: one walks a file from its first byte, and every number is drawn from it by `draw`, which moves it past that
-// number. After a refusal no number is drawn.
-ghost use Rattle.std.specs.Prelude.{◌≡◌, true, ◌≤◌, ◌<◌, IfOk};
+// number. After a refusal no number is drawn, and the reader that was lent stands where it stood.
+ghost use Rattle.std.specs.Prelude.{◌≡◌, true, ◌≤◌, ◌<◌, IfOk, IfErr};
 ghost use Rattle.cube.specs.Cube.{taps, size as size_of};
 ghost use Rattle.varint.specs.Varint.{varint};
 ghost use Rattle.point_list.specs.PointList.{point_list, mark_drawn};
@@ -31,6 +31,7 @@ impl<'a> Reader<'a> {
     pub fn draw(&mut self) -> Result<usize, Refusal>
         ensures src { self.new.src ≡ self.old.src }
         ensures drawn { drawn_of self.new result ≡ varint (left self.old) }
+        ensures stays { IfErr result (λ x. self.new ≡ self.old) }
     {
         let number = varint_at(self.src, self.at)?;
         self.at = number.next;
@@ -43,11 +44,14 @@ impl<'a> Reader<'a> {
         ensures src { self.new.src ≡ self.old.src }
         ensures drawn { drawn_of self.new result ≡ taps_of (left self.old) }
         ensures taps { IfOk result (λ n. taps n ≡ true) }
+        ensures stays { IfErr result (λ x. self.new ≡ self.old) }
     {
-        let n = self.draw()?;
+        let mut reader = *self;
+        let n = reader.draw()?;
         if !valid_taps(n) {
             return Err(Refusal::Taps);
         }
+        *self = reader;
         Ok(n)
     }
 
@@ -72,19 +76,22 @@ impl<'a> Reader<'a> {
         requires { taps n ≡ true }
         ensures src { self.new.src ≡ self.old.src }
         ensures drawn { marked_of self.new out.new result ≡ mark_drawn out.old (point_list (size_of n) (left self.old)) }
+        ensures stays { IfErr result (λ x. self.new ≡ self.old) }
     {
         let size = size(n);
-        let count = self.draw()?;
+        let mut reader = *self;
+        let count = reader.draw()?;
         if count > size {
             return Err(Refusal::Range);
         }
         let mut prev = 0;
         let mut least = 0;
         for _ in 0..count {
-            prev = self.draw_point(size, prev, least)?;
+            prev = reader.draw_point(size, prev, least)?;
             least = 1;
             out[prev] = 1;
         }
+        *self = reader;
         Ok(())
     }
 }

@@ -7,7 +7,7 @@ use Rattle.file_reader.proofs.reader.Reader.draw_list.Given as goal
 
 abbrev pub invariant-loop : goal.invariant-loop
 invariant-loop l = record {
-  src : l.self.src ≡ l.fn.self.src;
+  src : l.reader.src ≡ l.fn.self.src;
   inside : l.prev ≤ l.size;
-  same : mark_drawn l.fn.out (point_list (size l.n) (left l.fn.self)) ≡ mark_drawn l.out (points_from l.size (l.count - l.counter) l.prev l.least (left l.self));
+  same : mark_drawn l.fn.out (point_list (size l.n) (left l.fn.self)) ≡ mark_drawn l.out (points_from l.size (l.count - l.counter) l.prev l.least (left l.reader));
 }
