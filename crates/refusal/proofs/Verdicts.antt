@@ -3,6 +3,9 @@
 --   all_append        two lists of checks that hold, and each of them
 --   every p cs        each refusal of a list passes a test, as a test
 --   checked_append    the outcome after two lists of checks
+--   from v cs         the verdict v after the checks cs: its refusal, or that of the checks
+--   from_append       the verdict after two lists of checks
+--   from_same         the verdict after checks, where the one before them has another name
 --   refused_stays     a refusal stays, whatever checks follow
 --   passed_on         after checks that pass the verdict is that of those that follow
 --   checked_verdict   the outcome after checks is that after their verdict
@@ -14,7 +17,7 @@
 --   refused_either    one that refuses after checks: a check is broken, or they pass and what follows refuses
 --   refused_among     the refusal of a broken check is one of the list's
 --   refused_other     so it is not by a number that none of them has
-use mathlib.Core.Path.{◌≡◌, refl, sym, ◌∙◌}
+use mathlib.Core.Path.{◌≡◌, refl, sym, ap, ◌∙◌}
 use mathlib.Core.Logic.{◌↔◌, ◌⊎◌, inl, inr}
 use mathlib.Core.Bool.{Bool, true, false, ◌&&◌, and-eq-true_iff, false≢true, not}
 use mathlib.Core.List.{List, [], ◌∷◌, ◌++◌}
@@ -51,6 +54,22 @@ pub checked_append : {A : Type 0} (cs ds : List Check) (o : Outcome A) → check
 checked_append [] ds o = refl
 checked_append (true otherwise r ∷ cs) ds o = checked_append cs ds o
 checked_append (false otherwise r ∷ cs) ds o = refl
+
+-- more checks after a verdict, as `?` makes them
+abbrev pub from : Verdict → List Check → Verdict
+from (Err x) cs = Err x
+from (Ok u) cs = verdict cs
+
+-- checks after checks
+pub from_append : (v : Verdict) (cs ds : List Check) → from v (cs ++ ds) ≡ from (from v cs) ds
+from_append (Err x) cs ds = refl
+from_append (Ok u) [] ds = refl
+from_append (Ok u) (true otherwise r ∷ cs) ds = from_append (Ok u) cs ds
+from_append (Ok u) (false otherwise r ∷ cs) ds = refl
+
+-- the verdict before the checks has another name
+pub from_same : (cs : List Check) {u v w : Verdict} → v ≡ w → u ≡ from v cs → u ≡ from w cs
+from_same cs e h = h ∙ ap (λ x. from x cs) e
 
 -- a refusal stays
 pub refused_stays : (cs ds : List Check) {x : Refusal} → Err x ≡ verdict cs → Err x ≡ verdict (cs ++ ds)
