@@ -1,6 +1,7 @@
 -- Laws of rows packed into numbers.
 pub mod Bitwise
 pub mod Words
+pub mod InTurn
 pub mod Parity
 pub mod Clearing
 pub mod Cuts

@@ -1,6 +1,8 @@
 -- The row in eight numbers: reading a column, the first one, changing a column, zeros.
 --   length_unpack    a row has 512 columns
 --   shifted          a one shifted by less than 64
+--   past_first       a place past the first number
+--   entry_bits       bit i of a number
 --   entry_word       the entry of a row at a column is a bit of a number
 --   pivot_columns    the first number with a one holds the first one of the row
 --   Column T         what changes a column changes it in one of two parts of a row
@@ -52,11 +54,11 @@ columns_same (suc n) u v e =
     ap₂ {C = Row} (λ p q. p ++ q) (ap (bits_of 64) (e 0 (omega arith))) (columns_same n (λ k. u (suc k)) (λ k. v (suc k)) (λ k h. e (suc k) (omega arith)))
 
 -- a place past the first number
-past_first : (w : ℕ) (q r : ℕ) → suc q * 64 + r ≡ length (bits_of 64 w) + (q * 64 + r)
+pub past_first : (w : ℕ) (q r : ℕ) → suc q * 64 + r ≡ length (bits_of 64 w) + (q * 64 + r)
 past_first w q r = rw length_bits (omega arith)
 
 -- bit i of a number
-entry_bits : (n a i : ℕ) → i < n → entry (bits_of n a) i ≡ odd (a / 2 ^ i)
+pub entry_bits : (n a i : ℕ) → i < n → entry (bits_of n a) i ≡ odd (a / 2 ^ i)
 unfolding bits_of
 entry_bits zero a i h = absurd (omega arith)
 entry_bits (suc n) a zero h = ap odd (sym (div-one a))
