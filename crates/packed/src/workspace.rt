@@ -1,5 +1,6 @@
 // The rows of the lent workspace. Kernels for the crates above: each contract covers the whole workspace.
 ghost use Rattle.std.specs.Prelude.{◌≡◌, ◌<◌, length, set};
+ghost use Rattle.std.specs.Simd.{first_chunks};
 ghost use Rattle.gf2.specs.Vector.{add as add_of};
 ghost use Rattle.gf2.specs.Cut.{zero_row, cut as cut_of, common as common_of};
 ghost use Rattle.gf2.specs.Steps.{row_of};
@@ -11,7 +12,8 @@ use crate::{ROW_WORDS, ROWS, Rows};
 // The lent numbers, row by row. What they end as is then for the borrower to say.
 pub fn rows(workspace: &mut [u64]) -> &mut Rows
     requires { length workspace.old ≡ 8192 }
-    ensures { length result.now ≡ 1024 }
+    ensures long { length result.now ≡ 1024 }
+    ensures rows { result.now ≡ first_chunks 8 1024 workspace.old }
 {
     let (rows, _) = workspace.as_chunks_mut::<ROW_WORDS>();
     rows.as_mut_array::<ROWS>().unwrap()

@@ -72,7 +72,7 @@ filled : (f : After-fill_rows) → f.args.n ≤ 9 → let a = f.args in RowsFrom
 filled f s =
     let a = f.args in
     let ws = f.rows-ws.result.now in
-    rw f.fill_rows.ensures (filled_rows (exponents a.order.now.list a.n) a.n s (unpacked ws) (length-map ws unpack ∙ f.rows-ws.ensures))
+    rw f.fill_rows.ensures (filled_rows (exponents a.order.now.list a.n) a.n s (unpacked ws) (length-map ws unpack ∙ f.rows-ws.ensures.long))
 
 pub part_kept-kept-requires : goal.part_kept-kept-requires
 part_kept-kept-requires c =

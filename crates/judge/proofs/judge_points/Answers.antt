@@ -39,7 +39,7 @@ same u = search rules
 filled-ready : (f : After-fill_rows) → f.args.n ≤ 9 → Ready f.args.order.now.list f.args.n f.fill_rows.new.ws
 filled-ready f low =
     let ws = f.rows-ws.result.now in
-    record { small = low; rows = rw f.fill_rows.ensures (filled_rows (exponents f.args.order.now.list f.args.n) f.args.n low (unpacked ws) (length-map ws unpack ∙ f.rows-ws.ensures)) }
+    record { small = low; rows = rw f.fill_rows.ensures (filled_rows (exponents f.args.order.now.list f.args.n) f.args.n low (unpacked ws) (length-map ws unpack ∙ f.rows-ws.ensures.long)) }
 
 -- the arrays are those of a filter
 filter : (u : After-unwrap-table) → Filter u.args.n u.args.set.now u.args.table.now → Filter u.args.n u.unwrap-set.result.now u.unwrap-table.result.now

@@ -16,7 +16,7 @@ keep_points-ranked-requires c =
       c.requires.3,
       c.requires.4,
       rw mask (points_inside n c.args.mask.now c.requires.5),
-      rw c.fill_rows.ensures (filled_rows (exponents c.args.order.now.list n) n c.requires.3 (unpacked ws) (length-map ws unpack ∙ c.rows-ws.ensures)),
+      rw c.fill_rows.ensures (filled_rows (exponents c.args.order.now.list n) n c.requires.3 (unpacked ws) (length-map ws unpack ∙ c.rows-ws.ensures.long)),
     )
 
 -- the workspace has its length still, and is filled with zeros
