@@ -6,8 +6,8 @@
 ghost use Rattle.std.specs.Prelude.{◌+◌, ◌≤◌, length};
 ghost use Rattle.buffer.specs.Appends.{Appends};
 
-// The bytes are written from place `at` on, one by one: of `copy_from_slice` the archive for C would call `memmove`, and it
-// calls `memcpy` and `memset` alone.
+// The bytes are written from place `at` on, one by one: of `copy_from_slice` between two lent slices the archive for C would
+// call `memmove`, and it calls `memcpy` and `memset` alone.
 pub fn append(buffer: &mut [u8], at: usize, bytes: &[u8]) -> usize
     requires { at + length bytes.now ≤ length buffer.old }
     ensures { Appends bytes.now buffer.old buffer.new at result }
