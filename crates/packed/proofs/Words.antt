@@ -1,9 +1,9 @@
 -- The row in eight numbers: reading a column, the first one, changing a column, zeros.
+--   length_columns   each number holds 64 columns
 --   length_unpack    a row has 512 columns
 --   shifted          a one shifted by less than 64
---   past_first       a place past the first number
---   entry_bits       bit i of a number
---   entry_word       the entry of a row at a column is a bit of a number
+--   entry_listed     an entry of the numbers of a list is a bit of one of them
+--   entry_word       the same of a row
 --   pivot_columns    the first number with a one holds the first one of the row
 --   Column T         what changes a column changes it in one of two parts of a row
 --   unpack_changed   a number is stored that differs in one bit: a column of the row is changed
@@ -36,7 +36,7 @@ pub shifted : (c : ℕ) → c < 64 → 1 * 2 ^ c % 2 ^ 64 ≡ 2 ^ c
 shifted c h = ap (λ x. x % 2 ^ 64) (one-mul (2 ^ c)) ∙ mod-eq_of_lt (pow-lt h)
 
 -- each number holds 64 columns
-length_columns : (n : ℕ) (u : ℕ → ℕ) → length (columns n u) ≡ n * 64
+pub length_columns : (n : ℕ) (u : ℕ → ℕ) → length (columns n u) ≡ n * 64
 unfolding columns
 length_columns zero u = refl
 length_columns (suc n) u =
@@ -54,11 +54,11 @@ columns_same (suc n) u v e =
     ap₂ {C = Row} (λ p q. p ++ q) (ap (bits_of 64) (e 0 (omega arith))) (columns_same n (λ k. u (suc k)) (λ k. v (suc k)) (λ k h. e (suc k) (omega arith)))
 
 -- a place past the first number
-pub past_first : (w : ℕ) (q r : ℕ) → suc q * 64 + r ≡ length (bits_of 64 w) + (q * 64 + r)
+past_first : (w : ℕ) (q r : ℕ) → suc q * 64 + r ≡ length (bits_of 64 w) + (q * 64 + r)
 past_first w q r = rw length_bits (omega arith)
 
 -- bit i of a number
-pub entry_bits : (n a i : ℕ) → i < n → entry (bits_of n a) i ≡ odd (a / 2 ^ i)
+entry_bits : (n a i : ℕ) → i < n → entry (bits_of n a) i ≡ odd (a / 2 ^ i)
 unfolding bits_of
 entry_bits zero a i h = absurd (omega arith)
 entry_bits (suc n) a zero h = ap odd (sym (div-one a))
@@ -76,16 +76,22 @@ entry_columns (suc n) u (suc q) r g h =
     ap (entry (bits_of 64 (u 0) ++ columns n (λ k. u (suc k)))) (past_first (u 0) q r)
     ∙ get_or-append-add (bits_of 64 (u 0)) (columns n (λ k. u (suc k))) (q * 64 + r) false ∙ entry_columns n (λ k. u (suc k)) q r (omega arith) h
 
--- the entry of a row at a column is a bit of a number
+-- an entry of the numbers of a list is a bit of one of them
+pub entry_listed : (u : List ℕ) (c : ℕ) → entry (columns (length u) (λ k. get_or u k 0)) c ≡ odd (get_or u (c / 64) 0 / 2 ^ (c % 64))
+entry_listed u c =
+    let v = columns (length u) (λ k. get_or u k 0) in
+    elim (dec_lt (c / 64) (length u)) [
+      | yes h ↦
+          let e : c ≡ c / 64 * 64 + c % 64 = omega arith in
+          ap (entry v) e ∙ entry_columns (length u) (λ k. get_or u k 0) (c / 64) (c % 64) h (omega arith)
+      | no h ↦
+          get_or-eq_default v false (omega (arith, length_columns (length u) (λ k. get_or u k 0)))
+          ∙ sym (ap (λ w. odd (w / 2 ^ (c % 64))) (get_or-eq_default u 0 (omega arith)) ∙ ap odd (zero-div (2 ^ (c % 64))))
+    ]
+
+-- the same of a row
 pub entry_word : (u : List ℕ) (c : ℕ) → length u ≡ 8 → entry (unpack u) c ≡ odd (get_or u (c / 64) 0 / 2 ^ (c % 64))
-entry_word u c l = elim (dec_lt c 512) [
-  | yes h ↦
-      let e : c ≡ c / 64 * 64 + c % 64 = omega arith in
-      ap (entry (unpack u)) e ∙ entry_columns 8 (λ k. get_or u k 0) (c / 64) (c % 64) (omega arith) (omega arith)
-  | no h ↦
-      get_or-eq_default (unpack u) false (omega (arith, length_unpack u))
-      ∙ sym (ap (λ w. odd (w / 2 ^ (c % 64))) (get_or-eq_default u 0 (omega arith)) ∙ ap odd (zero-div (2 ^ (c % 64))))
-]
+entry_word u c l = ap (λ n. entry (columns n (λ k. get_or u k 0)) c) (sym l) ∙ entry_listed u c
 
 -- a number with a one holds the first one of the row that it begins
 pivot_word : (n a : ℕ) (rest : Row) → 0 < a → a < 2 ^ n → pivot (bits_of n a ++ rest) ≡ count_trailing_zeros n a

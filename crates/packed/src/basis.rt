@@ -31,7 +31,7 @@ pub fn reduce(ws: &mut Rows, pivots: &[u16; COLUMNS], kept: usize, row: usize) -
 }
 
 // Row `row` is reduced by the `kept` rows before it, and each addition is counted in `tally` at the pivot of the row added.
-#[inline(never)] // the same
+#[inline(never)] // so that the loop has the registers to itself
 pub fn reduce_tallied(
     ws: &mut Rows,
     pivots: &[u16; COLUMNS],

@@ -73,15 +73,11 @@ from_same cs e h = h ∙ ap (λ x. from x cs) e
 
 -- a refusal stays
 pub refused_stays : (cs ds : List Check) {x : Refusal} → Err x ≡ verdict cs → Err x ≡ verdict (cs ++ ds)
-refused_stays [] ds e = cc
-refused_stays (true otherwise r ∷ cs) ds e = refused_stays cs ds e
-refused_stays (false otherwise r ∷ cs) ds e = e
+refused_stays cs ds e = from_same ds e refl ∙ sym (from_append (Ok tt) cs ds)
 
 -- what follows checks that pass
 pub passed_on : (cs ds : List Check) {v : Verdict} → Ok tt ≡ verdict cs → v ≡ verdict ds → v ≡ verdict (cs ++ ds)
-passed_on [] ds e h = h
-passed_on (true otherwise r ∷ cs) ds e h = passed_on cs ds e h
-passed_on (false otherwise r ∷ cs) ds e h = cc
+passed_on cs ds e h = from_same ds e h ∙ sym (from_append (Ok tt) cs ds)
 
 -- the outcome after checks is that after their verdict
 pub checked_verdict : {A : Type 0} (cs : List Check) (o : Outcome A) → checked cs o ≡ outcome (verdict cs) o

@@ -1,6 +1,7 @@
+-- As many bytes as there is room for are written from the front on (front_appended).
+use native.Mathlib.Omega.{arith}
 use Rattle.exports.proofs.Front.{front_appended}
 use Rattle.exports.proofs.copy_front.Goals as goal
-use native.Mathlib.Omega.{arith}
 
 pub returns : goal.returns
 returns c =
