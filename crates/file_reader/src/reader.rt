@@ -1,5 +1,5 @@
 // The reader: one walks a file from its first byte, and every number is drawn from it by `draw`, which moves it past that
-// number. After a refusal no number is drawn, and the reader that was lent stands where it stood.
+// number. After a refusal no number is drawn, and the reader that was lent to a public draw stands where it stood.
 ghost use Rattle.std.specs.Prelude.{◌≡◌, true, ◌≤◌, ◌<◌, IfOk, IfErr};
 ghost use Rattle.cube.specs.Cube.{taps, size as size_of};
 ghost use Rattle.varint.specs.Varint.{varint};
